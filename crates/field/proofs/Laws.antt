@@ -39,16 +39,16 @@ module _ {R : Ring} (laws : CommutativeRing R) where
   pub product-below : (a b : ℕ) → R .product a b < R .order
   product-below a b = rw (laws .product-reads a b) (laws .product-code _ _ (code-below a) (code-below b))
 
-  sum-left : (a b : ℕ) → R .sum (read (R .order) a) b ≡ R .sum a b
+  pub sum-left : (a b : ℕ) → R .sum (read (R .order) a) b ≡ R .sum a b
   sum-left a b = laws .sum-reads (read (R .order) a) b ∙ ap (λ x. R .sum x (read (R .order) b)) (same a) ∙ sym (laws .sum-reads a b)
 
-  sum-right : (a b : ℕ) → R .sum a (read (R .order) b) ≡ R .sum a b
+  pub sum-right : (a b : ℕ) → R .sum a (read (R .order) b) ≡ R .sum a b
   sum-right a b = laws .sum-reads a (read (R .order) b) ∙ ap (λ x. R .sum (read (R .order) a) x) (same b) ∙ sym (laws .sum-reads a b)
 
-  product-left : (a b : ℕ) → R .product (read (R .order) a) b ≡ R .product a b
+  pub product-left : (a b : ℕ) → R .product (read (R .order) a) b ≡ R .product a b
   product-left a b = laws .product-reads (read (R .order) a) b ∙ ap (λ x. R .product x (read (R .order) b)) (same a) ∙ sym (laws .product-reads a b)
 
-  product-right : (a b : ℕ) → R .product a (read (R .order) b) ≡ R .product a b
+  pub product-right : (a b : ℕ) → R .product a (read (R .order) b) ≡ R .product a b
   product-right a b = laws .product-reads a (read (R .order) b) ∙ ap (λ x. R .product (read (R .order) a) x) (same b) ∙ sym (laws .product-reads a b)
 
   -- an equation of codes below the order holds of all, where both sides read their codes
@@ -180,10 +180,12 @@ module _ {A : Arithmetic} (laws : Lawful A) (a : ℕ) where
     where
       at-read : A .product (read (A .order) a) b ≡ 1
       at-read = product-left (laws .commutative-ring) a b ∙ e
+
       present : 0 < read (A .order) a → Some b ≡ A .inverse a
       present more =
           let r = laws .inverse-law _ (code-below (laws .commutative-ring) a) more in
           ap Some (inverse-unique (laws .commutative-ring) (read (A .order) a) b (r .0) h (r .2) at-read (r .3)) ∙ sym (r .1) ∙ sym (laws .inverse-reads a)
+
       absent : read (A .order) a ≤ 0 → Some b ≡ A .inverse a
       absent none =
           let z : read (A .order) a ≡ 0 = omega arith in
@@ -197,5 +199,6 @@ module _ {A : Arithmetic} (laws : Lawful A) (a : ℕ) where
       some more =
           let r = laws .inverse-law _ (code-below (laws .commutative-ring) a) more in
           absurd (never (r .0) (r .2) (sym (product-left (laws .commutative-ring) a (r .0)) ∙ r .3))
+
       none : read (A .order) a ≤ 0 → None ≡ A .inverse a
       none zero = let z : read (A .order) a ≡ 0 = omega arith in sym (laws .inverse-reads a ∙ ap (A .inverse) z ∙ laws .inverse-zero)

@@ -60,8 +60,8 @@ binary-test : ℕ → Bool
 binary-test k =
     both (both (ltb 2 (2 ^ k)) (leb k 4))
     (both (at-all (2 ^ k) (λ a b. bitXor a b) (λ a. a) (times k))
-     (both (all-below (2 ^ k) (λ a. eqb (shifted k a) (times k 2 a)))
-      (all-below (2 ^ k) (λ a. all-below (2 ^ k) (λ b. eqb (by-coefficients a (times k 2 a) (times k 2 (times k 2 a)) (times k 2 (times k 2 (times k 2 a))) b) (times k a b))))))
+    (both (all-below (2 ^ k) (λ a. eqb (shifted k a) (times k 2 a)))
+    (all-below (2 ^ k) (λ a. all-below (2 ^ k) (λ b. eqb (by-coefficients a (times k 2 a) (times k 2 (times k 2 a)) (times k 2 (times k 2 (times k 2 a))) b) (times k a b))))))
 
 binary-sizes-pass : T (each binary-test binary-sizes)
 unfolding binary-test both all-below at-one at-two at-three at-all

@@ -52,6 +52,7 @@ partner-found product a (suc n) b c e = ⊎-elim here (later (partner-found prod
         let s : Some b ≡ Some c = sym (cond-true _ (Some b) _ t) ∙ e in
         let same : b ≡ c = cc in
         (ap (product a) (sym same) ∙ eqb-true _ 1 t, omega arith)
+
     later : (partner product a n (suc b) ≡ Some c → (product a c ≡ 1) × (c < suc b + n)) → eqb (product a b) 1 ≡ false → (product a c ≡ 1) × (c < b + suc n)
     later below f = let r = below (sym (cond-false _ (Some b) _ f) ∙ e) in (r .0, omega (arith, r .1))
 
@@ -61,8 +62,8 @@ module _ (q : ℕ) (sum : ℕ → ℕ → ℕ) (negative : ℕ → ℕ) (product
   at-one a =
       both (ltb (negative a) q)
       (both (eqb (sum a 0) a)
-       (both (eqb (sum a (negative a)) 0)
-        (both (eqb (product 1 a) a) (cond (ltb 0 a) (isSome (partner product a q 0)) (not (isSome (partner product a q 0)))))))
+      (both (eqb (sum a (negative a)) 0)
+      (both (eqb (product 1 a) a) (cond (ltb 0 a) (isSome (partner product a q 0)) (not (isSome (partner product a q 0)))))))
 
   unfoldable pub at-two : ℕ → ℕ → Bool
   at-two a b =
@@ -77,7 +78,7 @@ module _ (q : ℕ) (sum : ℕ → ℕ → ℕ) (negative : ℕ → ℕ) (product
   at-all =
       both (leb 2 q)
       (both (leb q 256)
-       (both (all-below q at-one) (both (all-below q (λ a. all-below q (at-two a))) (all-below q (λ a. all-below q (λ b. all-below q (at-three a b)))))))
+      (both (all-below q at-one) (both (all-below q (λ a. all-below q (at-two a))) (all-below q (λ a. all-below q (λ b. all-below q (at-three a b)))))))
 
 -- what the tests say, each law at codes below q
 module _ (q : ℕ) (sum : ℕ → ℕ → ℕ) (negative : ℕ → ℕ) (product : ℕ → ℕ → ℕ) (passed : T (at-all q sum negative product)) where
@@ -103,9 +104,9 @@ module _ (q : ℕ) (sum : ℕ → ℕ → ℕ) (negative : ℕ → ℕ) (product
   three a b c h k l =
       at-below q _
       (at-below q _
-       (at-below q _
-        (both-right (all-below q (λ x. all-below q (at-two q sum negative product x))) _
-         (both-right (all-below q (at-one q sum negative product)) _ (both-right (leb q 256) _ (both-right (leb 2 q) _ passed)))) a h) b k) c l
+      (at-below q _
+      (both-right (all-below q (λ x. all-below q (at-two q sum negative product x))) _
+      (both-right (all-below q (at-one q sum negative product)) _ (both-right (leb q 256) _ (both-right (leb 2 q) _ passed)))) a h) b k) c l
 
   sum-below : (a b : ℕ) → a < q → b < q → sum a b < q
   unfolding at-two
@@ -181,10 +182,13 @@ module _ (q : ℕ) (sum : ℕ → ℕ → ℕ) (negative : ℕ → ℕ) (product
     where
       again : (a : ℕ) → read q a ≡ read q (read q a)
       again a = let l = low in sym (read-read q a (omega arith))
+
       zero-read : read q 0 ≡ 0
       zero-read = let l = low in read-code q 0 (omega arith)
+
       kept : (a b : ℕ) → product (read q a) (read q b) ≡ read q (product (read q a) (read q b))
       kept a b = sym (read-code q _ (product-below _ _ (code a) (code b)))
+
       inverse-at : (a : ℕ) → a < q → 0 < a → (b : ℕ) × (partner product (read q a) q 0 ≡ Some b) × (b < q) × (product (read q a) (read q b) ≡ 1)
       inverse-at a h more =
           let r = some-partner a h more in

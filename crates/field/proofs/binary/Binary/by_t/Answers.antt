@@ -23,6 +23,6 @@ returns-else-doubled-order c =
     let more : 2 ^ k ≤ a * 2 = omega arith in
     let same : c .order-order .result + 3 ≡ reduction k = omega arith in
     let value =
-        ap (bitXor (a * 2)) same ∙ sym (cond-false _ (a * 2) (bitXor (a * 2) (reduction k)) (le-ltb _ _ more))
-        ∙ shift-is-product k (c .args .self .now .listed) a (c .pre) in
+    ap (bitXor (a * 2)) same ∙ sym (cond-false _ (a * 2) (bitXor (a * 2) (reduction k)) (le-ltb _ _ more))
+    ∙ shift-is-product k (c .args .self .now .listed) a (c .pre) in
     record { value = value; code = subst (λ x. x < 2 ^ k) (sym value) (product-below k (c .args .self .now .listed) 2 a) }
