@@ -16,7 +16,8 @@ use Rattle.algebra.specs.Term.{Term, one, times, word, spelled, has, place, In
 use Rattle.algebra.specs.Term as term
 use Rattle.algebra.specs.Polynomial.{Polynomial, Equal, Over, negative, multiple}
 use Rattle.algebra.specs.Border.{Row, System, combination, borders, at-place, rule, rule-polynomials, Lawful-system}
-use Rattle.algebra.specs.Walk.{Entry, unit, image, mapped, last-row, entry-at, step-entries, entries, sum-of-entries, zeros, at-one, add-rows, form-onto, normal-form, cofactors}
+use Rattle.algebra.specs.declared.Entry.{Entry}
+use Rattle.algebra.specs.Walk.{unit, image, mapped, last-row, entry-at, step-entries, entries, sum-of-entries, zeros, at-one, add-rows, form-onto, normal-form, cofactors}
 use Rattle.algebra.specs.Clash.{twice, commutator, commutator-entries, negative-row, negative-entries}
 use Rattle.algebra.proofs.Terms.{has-head, has-tail, times-product, one-product, product-one, spelled-word, spelled-length, times-comm, word-letters}
 use Rattle.algebra.proofs.Borders.{Stands, stands, product-leads, not-in-border, not-in-set, place-absent, rule-at, term-in-variables, first-term}
@@ -52,9 +53,9 @@ module _ {R : Ring} (laws : CommutativeRing R) (B : System) (good : Lawful-syste
   pub entries-append : (f : Term → ℕ) (es fs : List Entry) → total R f (sum-of-entries R B (es ++ fs)) ≡ R .sum (total R f (sum-of-entries R B es)) (total R f (sum-of-entries R B fs))
   entries-append f [] fs = sym (zero-plus laws _ (total-below laws f (sum-of-entries R B fs)))
   entries-append f (e ∷ es) fs =
-      total-append laws f (multiple R (e .code) (e .multiplier) (rule R B (e .at))) (sum-of-entries R B (es ++ fs))
-      ∙ ap (R .sum (total R f (multiple R (e .code) (e .multiplier) (rule R B (e .at))))) (entries-append f es fs) ∙ sym (sum-assoc _ _ _)
-      ∙ ap (λ (k : ℕ). R .sum k (total R f (sum-of-entries R B fs))) (sym (total-append laws f (multiple R (e .code) (e .multiplier) (rule R B (e .at))) (sum-of-entries R B es)))
+      total-append laws f (multiple R (e .code) (e .multiplier) (rule R B (e .place))) (sum-of-entries R B (es ++ fs))
+      ∙ ap (R .sum (total R f (multiple R (e .code) (e .multiplier) (rule R B (e .place))))) (entries-append f es fs) ∙ sym (sum-assoc _ _ _)
+      ∙ ap (λ (k : ℕ). R .sum k (total R f (sum-of-entries R B fs))) (sym (total-append laws f (multiple R (e .code) (e .multiplier) (rule R B (e .place))) (sum-of-entries R B es)))
 
   one-entry : (f : Term → ℕ) (c : ℕ) (m : Term) (k : ℕ) → total R f (sum-of-entries R B (entry-at c m (suc k))) ≡ R .product c (total R (λ u. f (term.product m u)) (rule R B (suc k)))
   one-entry f c m k =
@@ -163,7 +164,7 @@ module _ {R : Ring} (laws : CommutativeRing R) (B : System) (good : Lawful-syste
   pub negative-account : (f : Term → ℕ) (es : List Entry) → total R f (sum-of-entries R B (negative-entries R es)) ≡ R .negative (total R f (sum-of-entries R B es))
   negative-account f [] = sym negative-zero
   negative-account f (e ∷ es) =
-      let r = rule R B (e .at) in
+      let r = rule R B (e .place) in
       total-append laws f (multiple R (R .negative (e .code)) (e .multiplier) r) (sum-of-entries R B (negative-entries R es))
       ∙ (λ i. R .sum ((total-multiple laws f (R .negative (e .code)) (e .multiplier) r ∙ negative-product (e .code) _ ∙ ap (R .negative) (sym (total-multiple laws f (e .code) (e .multiplier) r))) i) (negative-account f es i))
       ∙ sym (negative-of-sum _ _) ∙ ap (R .negative) (sym (total-append laws f (multiple R (e .code) (e .multiplier) r) (sum-of-entries R B es)))

@@ -16,7 +16,8 @@ use Rattle.algebra.specs.Term as term
 use Rattle.algebra.specs.Polynomial.{Polynomial, Equal, Over, negative, difference, multiple, product}
 use Rattle.algebra.specs.Border.{Row, System, combination, borders, at-place, rule, Lawful-system, Is-row, Are-rows, codes-below}
 use Rattle.algebra.specs.Ideal.{sum-of-multiples, All-over, In-ideal}
-use Rattle.algebra.specs.Walk.{Entry, zeros, unit, image, map-onto, mapped, last-row, entry-at, step-entries, entries, sum-of-entries, at-one, add-rows, scale, form-onto, normal-form, cofactors, all-zero}
+use Rattle.algebra.specs.declared.Entry.{Entry}
+use Rattle.algebra.specs.Walk.{zeros, unit, image, map-onto, mapped, last-row, entry-at, step-entries, entries, sum-of-entries, at-one, add-rows, scale, form-onto, normal-form, cofactors, all-zero}
 use Rattle.algebra.specs.Clash.{Commute, twice, commutator, commutator-entries, negative-row, negative-entries}
 use Rattle.algebra.proofs.Terms.{product-times, product-one, one-product, word-letters, spelled-in-variables, product-in-variables, one-in-variables, has-head, has-tail}
 use Rattle.algebra.proofs.Borders.{Distinct, connected-induction, connected-distinct, term-in-variables, getD-has, place-of, border-distinct, border-multiple, product-leads, not-in-set, rule-past, Stands, stands}
@@ -65,7 +66,7 @@ negative-multipliers R n (e ∷ es) h = (h .0, negative-multipliers R n es (h .1
 -- an entry as a polynomial times a rule
 abbrev as-multiples : List Entry → List (Polynomial × ℕ)
 as-multiples [] = []
-as-multiples (e ∷ es) = ((e .code, e .multiplier) ∷ [], e .at) ∷ as-multiples es
+as-multiples (e ∷ es) = ((e .code, e .multiplier) ∷ [], e .place) ∷ as-multiples es
 
 as-multiples-over : (n : ℕ) (es : List Entry) → Multipliers n es → All-over n (as-multiples es)
 as-multiples-over n [] h = tt
@@ -77,7 +78,7 @@ module _ {R : Ring} (laws : CommutativeRing R) (B : System) (good : Lawful-syste
   as-multiples-total : (f : Term → ℕ) (es : List Entry) → total R f (sum-of-multiples R B (as-multiples es)) ≡ total R f (sum-of-entries R B es)
   as-multiples-total f [] = refl
   as-multiples-total f (e ∷ es) =
-      let x = multiple R (e .code) (e .multiplier) (rule R B (e .at)) in
+      let x = multiple R (e .code) (e .multiplier) (rule R B (e .place)) in
       total-append laws f (x ++ []) (sum-of-multiples R B (as-multiples es))
       ∙ (λ i. R .sum ((total-append laws f x [] ∙ plus-zero laws _ (total-below laws f x)) i) (as-multiples-total f es i)) ∙ sym (total-append laws f x (sum-of-entries R B es))
 

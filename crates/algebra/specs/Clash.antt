@@ -8,7 +8,8 @@ use Rattle.std.specs.declared.option.Option.the-variants.{Some, None}
 use Rattle.field.specs.Arithmetic.{Ring}
 use Rattle.algebra.specs.Term.{Term, has}
 use Rattle.algebra.specs.Border.{Row, System}
-use Rattle.algebra.specs.Walk.{Entry, add-rows, unit, mapped, entries, all-zero}
+use Rattle.algebra.specs.declared.Entry.{Entry}
+use Rattle.algebra.specs.Walk.{add-rows, unit, mapped, entries, all-zero}
 
 -- MaMb(t): the row of t mapped by b and then by a
 abbrev pub twice : Ring → System → ℕ → ℕ → Term → Row
@@ -26,7 +27,7 @@ abbrev pub commutator : Ring → System → ℕ → ℕ → Term → Row
 commutator R B a b t = add-rows R (twice R B a b t) (negative-row R (twice R B b a t))
 
 abbrev pub negative-entries : Ring → List Entry → List Entry
-negative-entries R es = map (λ (e : Entry). record { code = R .negative (e .code); multiplier = e .multiplier; at = e .at }) es
+negative-entries R es = map (λ (e : Entry). record { code = R .negative (e .code); multiplier = e .multiplier; place = e .place }) es
 
 -- the walk of t by a and then b, and after it the walk by b and then a with codes negated
 abbrev pub commutator-entries : Ring → System → ℕ → ℕ → Term → List Entry

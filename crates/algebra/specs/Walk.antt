@@ -8,6 +8,7 @@ use Rattle.field.specs.Arithmetic.{Ring}
 use Rattle.algebra.specs.Term.{Term, times, word, spelled, same, has, place}
 use Rattle.algebra.specs.Polynomial.{Polynomial, multiple, sum}
 use Rattle.algebra.specs.Border.{Row, System, borders, at-place, rule}
+use Rattle.algebra.specs.declared.Entry.{Entry}
 
 abbrev pub zeros : List Term → Row
 zeros S = map (λ (_ : Term). 0) S
@@ -43,14 +44,9 @@ last-row R B v [] = v
 last-row R B v (i ∷ w) = last-row R B (mapped R B i v) w
 
 -- An entry stands for its code times its multiplier times the rule polynomial at its border place, counted from 1.
-pub record Entry : Type 0 where
-  pub code : ℕ
-  pub multiplier : Term
-  pub at : ℕ
-
 abbrev pub entry-at : ℕ → Term → ℕ → List Entry
 entry-at c m zero = []
-entry-at c m (suc k) = record { code = c; multiplier = m; at = suc k } ∷ []
+entry-at c m (suc k) = record { code = c; multiplier = m; place = suc k } ∷ []
 
 -- the entries of a step with variable i: for each nonzero code whose product is on the border, with the product of the variables to come
 abbrev pub step-entries : System → ℕ → Term → Row → List Term → List Entry
@@ -65,7 +61,7 @@ entries R B v (i ∷ w) = step-entries B i (spelled w) v (B .terms) ++ entries R
 -- what entries add up to
 abbrev pub sum-of-entries : Ring → System → List Entry → Polynomial
 sum-of-entries R B [] = []
-sum-of-entries R B (e ∷ es) = sum (multiple R (e .code) (e .multiplier) (rule R B (e .at))) (sum-of-entries R B es)
+sum-of-entries R B (e ∷ es) = sum (multiple R (e .code) (e .multiplier) (rule R B (e .place))) (sum-of-entries R B es)
 
 -- a code at the first term, 1
 abbrev pub at-one : ℕ → List Term → Row

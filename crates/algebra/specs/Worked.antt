@@ -7,7 +7,7 @@ use Rattle.field.specs.Arithmetic.{Ring, ring}
 use Rattle.field.specs.Supplied.{modulo}
 use Rattle.algebra.specs.Term.{Term, one}
 use Rattle.algebra.specs.Border.{System, Row, border, borders}
-use Rattle.algebra.specs.Walk.{Entry}
+use Rattle.algebra.specs.declared.Entry.{Entry}
 use Rattle.algebra.specs.Clash.{first-clash, commutator, commutator-entries}
 
 abbrev pub three : Ring
@@ -44,7 +44,7 @@ pub record Worked : Type 0 where
   pub square-border : border 2 square ≡ xy 2 0 ∷ xy 0 2 ∷ xy 2 1 ∷ xy 1 2 ∷ []
   pub square-clashes : first-clash three (square-with (0 ∷ 0 ∷ 1 ∷ 0 ∷ [])) ≡ Some (record { term = 2; a = 0; b = 1 })
   pub square-commutator : commutator three (square-with (0 ∷ 0 ∷ 1 ∷ 0 ∷ [])) 0 1 (xy 0 1) ≡ 0 ∷ 0 ∷ 2 ∷ 1 ∷ []
-  pub square-entries : commutator-entries three (square-with (0 ∷ 0 ∷ 1 ∷ 0 ∷ [])) 0 1 (xy 0 1) ≡ record { code = 1; multiplier = one; at = 4 } ∷ record { code = 2; multiplier = xy 1 0; at = 2 } ∷ []
+  pub square-entries : commutator-entries three (square-with (0 ∷ 0 ∷ 1 ∷ 0 ∷ [])) 0 1 (xy 0 1) ≡ record { code = 1; multiplier = one; place = 4 } ∷ record { code = 2; multiplier = xy 1 0; place = 2 } ∷ []
   pub square-sound : first-clash three (square-with (0 ∷ 0 ∷ 0 ∷ 1 ∷ [])) ≡ None
   pub chain-border : borders chain ≡ xy 0 1 ∷ xy 2 0 ∷ xy 2 1 ∷ xy 1 2 ∷ []
   pub chain-sound : first-clash three chain ≡ None

@@ -1,7 +1,18 @@
 // The mathematics of border bases over any commutative ring on codes: definitions and theorems.
-// Each function states a theorem; there is nothing to run.
+// The types are those that the code above computes with. Each function states a theorem; there is nothing to run.
 ghost use Rattle.algebra.specs.Theorems.{Walks-account-always, Border-basis-theorem, Normal-form-theorem};
 ghost use Rattle.algebra.specs.Worked.{Worked};
+
+// A product of powers of at most eight variables, by its exponents.
+pub type Term = [u8; 8];
+
+// A multiple of a rule: `code` times `multiplier` times the rule polynomial at a border place, counted from 1.
+#[derive(Clone, Copy, Debug, PartialEq)]
+pub struct Entry {
+    pub code: u16,
+    pub multiplier: Term,
+    pub place: u16,
+}
 
 // A row times a word is the last row of the walk plus its entries, whatever the rules are.
 pub fn walks_account()

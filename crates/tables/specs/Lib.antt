@@ -1,0 +1,3 @@
+pub mod Page
+pub mod Request
+pub mod Text
