@@ -25,7 +25,7 @@ use Rattle.algebra.proofs.Totals.{total, zero-plus, plus-zero, total-below, to
 use Rattle.algebra.proofs.Rows.{interchange, total-add, total-zeros, total-at-one, total-agree, total-negative-row}
 use Rattle.algebra.proofs.Maps.{pull, total-mapped, total-last-row, pull-inside}
 
-module _ {R : Ring} (laws : CommutativeRing R) (B : System) (good : Lawful-system R B) where
+module _ {R : Ring} (laws : CommutativeRing R) (B : System) (good : Lawful-system B) where
   open Derived (derived laws) using (sum-comm, sum-assoc, sum-left-comm, product-sum, zero-product, product-zero, one-product as code-one-product, sum-below, product-below, negative-product, negative-of-sum, negative-zero, sum-negative, negative-sum)
 
   -- a border product has a rule, whose weight is that of the product less that of its row

@@ -72,7 +72,7 @@ as-multiples-over : (n : ℕ) (es : List Entry) → Multipliers n es → All-ove
 as-multiples-over n [] h = tt
 as-multiples-over n (e ∷ es) h = ((h .0, tt), as-multiples-over n es (h .1))
 
-module _ {R : Ring} (laws : CommutativeRing R) (B : System) (good : Lawful-system R B) where
+module _ {R : Ring} (laws : CommutativeRing R) (B : System) (good : Lawful-system B) where
   open Derived (derived laws) using (sum-comm, sum-assoc, zero-product, product-zero, sum-below, negative-of-sum, sum-negative, negative-zero, equal-from-difference)
 
   as-multiples-total : (f : Term → ℕ) (es : List Entry) → total R f (sum-of-multiples R B (as-multiples es)) ≡ total R f (sum-of-entries R B es)
@@ -87,12 +87,12 @@ module _ {R : Ring} (laws : CommutativeRing R) (B : System) (good : Lawful-syste
   entries-in-ideal p es h e = (as-multiples es, as-multiples-over _ es h, equal-from-totals laws _ _ (λ f. e f ∙ sym (as-multiples-total f es)))
 
   -- rows of the right length
-  row-at : (S : List Term) (rs : List Row) (k : ℕ) → Are-rows R S rs → k < length rs → length (getD rs k []) ≡ length S
+  row-at : (S : List Term) (rs : List Row) (k : ℕ) → Are-rows S rs → k < length rs → length (getD rs k []) ≡ length S
   row-at S [] k h l = absurd (omega arith)
-  row-at S (r ∷ rs) zero h l = h .0 .0
+  row-at S (r ∷ rs) zero h l = h .0
   row-at S (r ∷ rs) (suc k) h l = row-at S rs k (h .1) (omega arith)
 
-  image-length : (i : ℕ) (t : Term) → i < B .variables → has t (B .terms) ≡ true → length (image B i t) ≡ length (B .terms)
+  pub image-length : (i : ℕ) (t : Term) → i < B .variables → has t (B .terms) ≡ true → length (image B i t) ≡ length (B .terms)
   image-length i t h k = ⊎-elim inside outside (product-leads (B .variables) i (B .terms) t h k)
     where
       inside : has (times i t) (B .terms) ≡ true → length (image B i t) ≡ length (B .terms)

@@ -13,7 +13,8 @@ use Rattle.field.specs.Arithmetic.{Ring, CommutativeRing}
 use Rattle.algebra.specs.Term.{Term, has}
 use Rattle.algebra.specs.Border.{Row, System, Lawful-system, combination}
 use Rattle.algebra.specs.Walk.{mapped, unit, all-zero}
-use Rattle.algebra.specs.Clash.{Commute, twice, commutator, pairs-with, pairs-from, pairs, clash-at, Clash, clash-or, clash-from, first-clash}
+use Rattle.algebra.specs.declared.Clash.{Clash}
+use Rattle.algebra.specs.Clash.{Commute, twice, commutator, pairs-with, pairs-from, pairs, clash-at, clash-or, clash-from, first-clash}
 use Rattle.algebra.specs.Theorems.{Dependence, Walks-account, Border-basis, Normal-forms, Walks-account-always, Border-basis-theorem, Normal-form-theorem}
 use Rattle.algebra.proofs.Terms.{has-head, has-tail, has-cases}
 use Rattle.algebra.proofs.Borders.{getD-has}
@@ -142,7 +143,7 @@ clash-is R B k (u ∷ ts) x e = go (clash-at R B u (pairs (B .variables))) refl 
 pub first-clash-is : (R : Ring) (B : System) (x : Clash) → first-clash R B ≡ Some x → Clashes R B 0 (B .terms) x
 first-clash-is R B x e = clash-is R B 0 (B .terms) x e
 
-module _ {R : Ring} (laws : CommutativeRing R) (B : System) (good : Lawful-system R B) where
+module _ {R : Ring} (laws : CommutativeRing R) (B : System) (good : Lawful-system B) where
   commutes-at : first-clash R B ≡ None → (t : Term) → has t (B .terms) ≡ true → (a b : ℕ) → a < b → b < B .variables → twice R B a b t ≡ twice R B b a t
   commutes-at e t h a b less k =
       let z = none-zero R B t (pairs (B .variables)) (none-later R B 0 (B .terms) e t h) (a, b) (in-pairs (B .variables) a b less k) in

@@ -74,21 +74,22 @@ rule-polynomials R S (e ∷ es) (r ∷ rs) = rule-polynomial R S e r ∷ rule-po
 abbrev pub rule : Ring → System → ℕ → Polynomial
 rule R B k = at-place k (rule-polynomials R (B .terms) (borders B) (B .rows)) []
 
--- a row of the system: a code of the ring for each term of S
 abbrev pub codes-below : ℕ → Row → Type 0
 codes-below q [] = Unit {0}
 codes-below q (c ∷ v) = (c < q) × codes-below q v
 
+-- a code of the ring for each term of S
 abbrev pub Is-row : Ring → List Term → Row → Type 0
 Is-row R S v = (length v ≡ length S) × codes-below (R .order) v
 
-abbrev pub Are-rows : Ring → List Term → List Row → Type 0
-Are-rows R S [] = Unit {0}
-Are-rows R S (r ∷ rs) = Is-row R S r × Are-rows R S rs
+-- every row has a code for each term of S
+abbrev pub Are-rows : List Term → List Row → Type 0
+Are-rows S [] = Unit {0}
+Are-rows S (r ∷ rs) = (length r ≡ length S) × Are-rows S rs
 
 -- a set of terms connected to 1 in at most eight variables, with a row for each border term
-pub record Lawful-system (R : Ring) (B : System) : Type 0 where
+pub record Lawful-system (B : System) : Type 0 where
   pub few-variables : B .variables ≤ 8
   pub is-connected : connected (B .variables) (B .terms) ≡ true
   pub all-rules : length (B .rows) ≡ length (borders B)
-  pub are-rows : Are-rows R (B .terms) (B .rows)
+  pub are-rows : Are-rows (B .terms) (B .rows)

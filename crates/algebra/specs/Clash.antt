@@ -8,6 +8,7 @@ use Rattle.std.specs.declared.option.Option.the-variants.{Some, None}
 use Rattle.field.specs.Arithmetic.{Ring}
 use Rattle.algebra.specs.Term.{Term, has}
 use Rattle.algebra.specs.Border.{Row, System}
+use Rattle.algebra.specs.declared.Clash.{Clash}
 use Rattle.algebra.specs.declared.Entry.{Entry}
 use Rattle.algebra.specs.Walk.{add-rows, unit, mapped, entries, all-zero}
 
@@ -50,12 +51,6 @@ pairs n = pairs-from 0 n
 abbrev pub clash-at : Ring → System → Term → List (ℕ × ℕ) → Option (ℕ × ℕ)
 clash-at R B t [] = None
 clash-at R B t (x ∷ xs) = let later = clash-at R B t xs in cond (all-zero (commutator R B (x .0) (x .1) t)) later (Some x)
-
--- A clash: the term's place in S, counted from 0, and the two variables.
-pub record Clash : Type 0 where
-  pub term : ℕ
-  pub a : ℕ
-  pub b : ℕ
 
 abbrev pub clash-or : ℕ → Option (ℕ × ℕ) → Option Clash → Option Clash
 clash-or k None later = later

@@ -44,10 +44,10 @@ pub record Normal-forms (R : Ring) (B : System) : Type 0 where
   pub zero-form : (p : Polynomial) → Over (B .variables) p → all-zero (normal-form R B p) ≡ true → In-ideal R B p
 
 abbrev pub Walks-account-always : Type 0
-Walks-account-always = (R : Ring) → CommutativeRing R → (B : System) → Lawful-system R B → Walks-account R B
+Walks-account-always = (R : Ring) → CommutativeRing R → (B : System) → Lawful-system B → Walks-account R B
 
 abbrev pub Border-basis-theorem : Type 0
-Border-basis-theorem = (R : Ring) → CommutativeRing R → (B : System) → Lawful-system R B → Border-basis R B
+Border-basis-theorem = (R : Ring) → CommutativeRing R → (B : System) → Lawful-system B → Border-basis R B
 
 abbrev pub Normal-form-theorem : Type 0
-Normal-form-theorem = (R : Ring) → CommutativeRing R → (B : System) → Lawful-system R B → Normal-forms R B
+Normal-form-theorem = (R : Ring) → CommutativeRing R → (B : System) → Lawful-system B → Normal-forms R B

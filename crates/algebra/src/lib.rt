@@ -14,6 +14,14 @@ pub struct Entry {
     pub place: u16,
 }
 
+// Where two maps do not commute: the place of a term of S and two variables, all counted from 0.
+#[derive(Clone, Copy, Debug, PartialEq)]
+pub struct Clash {
+    pub term: usize,
+    pub a: usize,
+    pub b: usize,
+}
+
 // A row times a word is the last row of the walk plus its entries, whatever the rules are.
 pub fn walks_account()
     ensures { λ _. ⌜ Walks-account-always ⌝ }

@@ -1,0 +1,4 @@
+pub mod Adding
+pub mod Leading
+pub mod Listing
+pub mod Walking
