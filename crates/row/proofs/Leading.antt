@@ -12,7 +12,6 @@ use Rattle.std.proofs.shelf.Tests.{cond-true, cond-false, eq-eqb, ne-eqb, le-le
 use Rattle.field.specs.Arithmetic.{Ring}
 use Rattle.algebra.specs.Term.{Term}
 use Rattle.algebra.specs.Border.{Row}
-use Rattle.algebra.specs.declared.Entry.{Entry}
 use Rattle.row.specs.declared.lead.Lead.{Lead}
 use Rattle.row.specs.declared.lead.Lead.the-variants.{Inside, OnBorder}
 use Rattle.row.specs.Sums.{zeros-like}
@@ -84,15 +83,16 @@ blank-part [] n l = refl
 blank-part (a ∷ v) zero l = absurd (omega arith)
 blank-part (a ∷ v) (suc n) l = ap (λ (x : Row). 0 ∷ x) (blank-part v n (omega arith))
 
+-- the first n codes of a row written anew, and the others as they were
+pub still-long : (n : ℕ) (old out rest : Row) → n ≤ length old → length out ≡ length (take (n - 0) old) → n ≤ length (out ++ rest)
+still-long n old out rest l e = omega (arith, length-append out rest, length-take (n - 0) old)
+
 -- the first n of m zeros, as the code takes them
 abbrev pub blank : ℕ → ℕ → Row
 blank m n = take (n - 0) (replicate m 0)
 
 blank-length : (m n : ℕ) → n ≤ m → length (blank m n) ≡ n - 0
 blank-length m n l = omega (arith, length-take {A = ℕ} (n - 0) (replicate m 0), length-replicate {A = ℕ} m 0)
-
-pub still-long : (m n : ℕ) (out rest : Row) → n ≤ m → length out ≡ length (blank m n) → n ≤ length (out ++ rest)
-still-long m n out rest l e = omega (arith, length-append out rest, blank-length m n l)
 
 -- a row that is mapped onto zeros and copied back
 pub mapped-back : (m : ℕ) (R : Ring) (rows : List Row) (ls : List Lead) (v out rest last : Row) → length v ≤ m → length v ≤ 32 → length out ≡ length (blank m (length v)) → out ≡ map-led R rows (blank m (length v)) v ls → last ≡ take (length v - 0) (out ++ rest) → last ≡ advanced R rows ls v

@@ -2,13 +2,12 @@
 use Prim.Native.Nat.{ℕ, _<_}
 use native.Mathlib.Omega.{arith}
 use mathlib.Core.Path.{_≡_, refl, sym, ap, _∙_}
-use mathlib.Core.List.{List, [], _∷_, _++_}
+use mathlib.Core.List.{List, []}
 use lib.ListN.{length, getD}
 use Rattle.std.specs.declared.option.Option.the-variants.{Some, None}
 use Rattle.field.specs.Arithmetic.{Ring}
 use Rattle.algebra.specs.Term.{Term, degree, word, spelled}
 use Rattle.algebra.specs.Border.{Row}
-use Rattle.algebra.specs.declared.Entry.{Entry}
 use Rattle.algebra.proofs.Terms.{spelled-word}
 use Rattle.term.specs.Letters.{first-variable}
 use Rattle.term.proofs.Letters.{word-variable, word-empty, divided}

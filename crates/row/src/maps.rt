@@ -4,7 +4,6 @@ ghost use Rattle.row.specs.Leads.{add-led, map-led, advanced};
 use crate::lead::Lead;
 use crate::sums::add_at;
 use crate::sums::add_multiple;
-use crate::sums::clear;
 use field::Field;
 
 // Adds `c` times what a lead stands for.

@@ -23,14 +23,28 @@ pub fn list_entry(slots: &mut [Entry], count: usize, entry: Entry) -> usize
 }
 
 // Lists the entries of a step: one for each nonzero code that leads to the border.
-pub fn list_step(slots: &mut [Entry], count: usize, multiplier: Term, row: &[u16], leads: &[Lead]) -> usize
+pub fn list_step(
+    slots: &mut [Entry],
+    count: usize,
+    multiplier: Term,
+    row: &[u16],
+    leads: &[Lead],
+) -> usize
     ensures { λ r. ⌜ _≡_ {A = Listed} (record { slots = now (slots .exit); count = r }) (listed-all (record { slots = now (slots .entry); count = count }) (step-led multiplier (now (row .entry)) (now (leads .entry)))) ⌝ }
 {
     let mut count = count;
     for (j, c) in row.iter().enumerate() {
         if *c != 0 && j < leads.len() {
             if let Lead::OnBorder(place) = leads[j] {
-                count = list_entry(slots, count, Entry { code: *c, multiplier, place });
+                count = list_entry(
+                    slots,
+                    count,
+                    Entry {
+                        code: *c,
+                        multiplier,
+                        place,
+                    },
+                );
             }
         }
     }
@@ -38,7 +52,15 @@ pub fn list_step(slots: &mut [Entry], count: usize, multiplier: Term, row: &[u16
 }
 
 // Walks a row by the variables of a term, the first variable first, and lists the entries of every step.
-pub fn walk<F: Field>(f: &F, rows: &[[u16; 32]], leads: &[[Lead; 32]; 8], row: &mut [u16], t: Term, slots: &mut [Entry], count: usize) -> usize
+pub fn walk<F: Field>(
+    f: &F,
+    rows: &[[u16; 32]],
+    leads: &[[Lead; 32]; 8],
+    row: &mut [u16],
+    t: Term,
+    slots: &mut [Entry],
+    count: usize,
+) -> usize
     ensures last { λ _. ⌜ now (row .exit) ≡ walk-row (ring (F·Field .meaning (now (f .entry)))) (now (rows .entry)) (now (leads .entry)) (now (row .entry)) (word t) ⌝ }
     ensures listed { λ r. ⌜ _≡_ {A = Listed} (record { slots = now (slots .exit); count = r }) (listed-all (record { slots = now (slots .entry); count = count }) (walk-entries (ring (F·Field .meaning (now (f .entry)))) (now (rows .entry)) (now (leads .entry)) (now (row .entry)) (word t))) ⌝ }
 {

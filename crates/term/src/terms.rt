@@ -4,8 +4,8 @@ ghost use Rattle.std.specs.Options.{Cases};
 ghost use Rattle.algebra.specs.Term.{times, degree as degree-of, zero-past, has, same as same-term};
 ghost use Rattle.algebra.specs.Border.{multiples-from, multiples};
 ghost use Rattle.term.specs.Letters.{first-variable, raised as raised-term};
-use algebra::Term;
 use crate::search::Test;
+use algebra::Term;
 
 pub fn same(a: &Term, b: &Term) -> bool
     ensures { λ r. ⌜ r ≡ same-term (now (a .entry)) (now (b .entry)) ⌝ }

@@ -1,7 +1,5 @@
-use mathlib.Core.Path.{_≡_, sym, ap, _∙_}
+use mathlib.Core.Path.{sym, ap, _∙_}
 use Rattle.field.specs.Arithmetic.{ring}
-use Rattle.algebra.specs.Border.{Row}
-use Rattle.row.specs.declared.lead.Lead.{Lead}
 use Rattle.row.specs.Sums.{add-multiple}
 use Rattle.row.specs.Leads.{add-led}
 use Rattle.row.proofs.Adding.{nothing-there, add-nothing}

@@ -3,7 +3,7 @@ use Rattle.row.proofs.Leading.{still-long, mapped-back}
 use Rattle.row.proofs.maps.advance.Needs as need
 
 pub part-copy-from-slice-end : need.part-copy-from-slice-end
-part-copy-from-slice-end g c = still-long 32 _ (c .map-onto .last .out) _ (c .if-size-le32 .taken) (c .map-onto .kept .out)
+part-copy-from-slice-end g c = still-long _ _ (c .map-onto .last .out) _ (c .if-size-le32 .taken) (c .map-onto .kept .out)
 
 pub returns-then-size-le32 : need.returns-then-size-le32
 returns-then-size-le32 g c =

@@ -11,7 +11,7 @@ loop-j-again g c =
     let step = add-led (ring (g .F·Field .meaning (c .args .f .now))) (c .args .rows .now) in
     underway-more step (c .args .row .now) (c .args .leads .now) (c .args .out .now) (c .loop-j .j) (c .loop-j .out) (c .if-c-ne0 .out) (c .loop-j-test .taken) (c .loop-j .inv)
     (elim (c .if-c-ne0 .came) [
-      then-c-ne0·then-j-leads w ↦ stepped step (c .args .row .now) (c .args .leads .now) (c .loop-j .j) (c .loop-j .out) (w .add-led .last .out) (c .if-c-ne0 .out) (w .if-c-ne0 .taken) (w .if-j-leads .taken) (w .out-is) (w .add-led .ensures)
+      | then-c-ne0·then-j-leads w ↦ stepped step (c .args .row .now) (c .args .leads .now) (c .loop-j .j) (c .loop-j .out) (w .add-led .last .out) (c .if-c-ne0 .out) (w .if-c-ne0 .taken) (w .if-j-leads .taken) (w .out-is) (w .add-led .ensures)
       | else-c-ne0 w ↦ inr (w .else-c-ne0 .either, w .out-is)
     ])
 

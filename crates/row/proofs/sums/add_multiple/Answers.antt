@@ -12,7 +12,7 @@ loop-k-again g c =
     let k = c .loop-k .k in
     partly-turn (more-by R (c .args .c)) k (c .args .out .now) (c .args .row .now) (c .loop-k .out) (c .if-k-row .out) (c .loop-k-test .taken) (c .loop-k .inv)
     (elim (c .if-k-row .came) [
-      then-k-row w ↦ inl (w .if-k-row .taken, written (R .sum) k (c .loop-k .out) (c .if-k-row .out) (w .sum .result) (w .product .result) (R .product (c .args .c) (getD (c .args .row .now) (c .loop-k .k) 0)) (w .out-is) (w .sum .ensures) (w .product .ensures))
+      | then-k-row w ↦ inl (w .if-k-row .taken, written (R .sum) k (c .loop-k .out) (c .if-k-row .out) (w .sum .result) (w .product .result) (R .product (c .args .c) (getD (c .args .row .now) (c .loop-k .k) 0)) (w .out-is) (w .sum .ensures) (w .product .ensures))
       | else-k-row w ↦ inr (w .if-k-row .left, w .out-is)
     ])
 

@@ -12,7 +12,7 @@ loop-k-again g c =
     let k = c .loop-k .k in
     partly-turn (less-by R) k (c .args .out .now) (c .args .row .now) (c .loop-k .out) (c .if-k-row .out) (c .loop-k-test .taken) (c .loop-k .inv)
     (elim (c .if-k-row .came) [
-      then-k-row w ↦ inl (w .if-k-row .taken, written (R .sum) k (c .loop-k .out) (c .if-k-row .out) (w .sum .result) (w .negative .result) (R .negative (getD (c .args .row .now) (c .loop-k .k) 0)) (w .out-is) (w .sum .ensures) (w .negative .ensures))
+      | then-k-row w ↦ inl (w .if-k-row .taken, written (R .sum) k (c .loop-k .out) (c .if-k-row .out) (w .sum .result) (w .negative .result) (R .negative (getD (c .args .row .now) (c .loop-k .k) 0)) (w .out-is) (w .sum .ensures) (w .negative .ensures))
       | else-k-row w ↦ inr (w .if-k-row .left, w .out-is)
     ])
 

@@ -16,7 +16,7 @@ loop-j-again c =
     let next = listing (c .if-c-ne0 .slots) (c .if-c-ne0 .count) in
     underway-more step row leads (listing (c .args .slots .now) (c .args .count)) j now next (c .loop-j-test .taken) (c .loop-j .inv)
     (elim (c .if-c-ne0 .came) [
-      then-c-ne0·then-j-leads·in-OnBorder w ↦ stepped step row leads j now (listing (w .list-entry-count .last .slots) (w .list-entry-count .result)) next (w .if-c-ne0 .taken) (w .if-j-leads .taken) (λ i. listing (w .slots-is i) (w .count-is i)) (w .list-entry-count .ensures ∙ ap (step now (getD row j 0)) (sym (w .in-OnBorder .is)))
+      | then-c-ne0·then-j-leads·in-OnBorder w ↦ stepped step row leads j now (listing (w .list-entry-count .last .slots) (w .list-entry-count .result)) next (w .if-c-ne0 .taken) (w .if-j-leads .taken) (λ i. listing (w .slots-is i) (w .count-is i)) (w .list-entry-count .ensures ∙ ap (step now (getD row j 0)) (sym (w .in-OnBorder .is)))
       | then-c-ne0·then-j-leads·in-rest w ↦ stepped step row leads j now now next (w .if-c-ne0 .taken) (w .if-j-leads .taken) (λ i. listing (w .slots-is i) (w .count-is i)) (none-listed (c .args .multiplier) now (getD row j 0) _ (w .in-rest .not-OnBorder))
       | else-c-ne0 w ↦ inr (w .else-c-ne0 .either, λ i. listing (w .slots-is i) (w .count-is i))
     ])

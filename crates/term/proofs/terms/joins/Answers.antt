@@ -1,4 +1,4 @@
-use mathlib.Core.Path.{sym, _∙_}
+use mathlib.Core.Path.{sym}
 use native.Mathlib.Omega.{arith}
 use Rattle.term.proofs.Exponents.{joins-one, joins-none}
 use Rattle.term.proofs.terms.joins.Needs as need
