@@ -53,6 +53,10 @@ zero-past (suc n) (e ∷ t) = zero-past n t
 abbrev pub In-variables : ℕ → Term → Type 0
 In-variables n t = (length t ≡ 8) × (zero-past n t ≡ true)
 
+-- the same as a test
+abbrev pub in-variables : ℕ → Term → Bool
+in-variables n t = eqb (length t) 8 && zero-past n t
+
 abbrev pub same : Term → Term → Bool
 same = sameBytes
 

@@ -8,6 +8,7 @@ pub use terms::Is;
 pub use terms::IsTest;
 pub use terms::degree;
 pub use terms::first_variable;
+pub use terms::in_variables;
 pub use terms::is_product;
 pub use terms::joined;
 pub use terms::raised;

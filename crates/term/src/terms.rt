@@ -1,7 +1,7 @@
 ghost use mathlib.Core.Path.{_≡_};
 ghost use Prim.Native.Nat.{_<_};
 ghost use Rattle.std.specs.Options.{Cases};
-ghost use Rattle.algebra.specs.Term.{times, degree as degree-of, zero-past, has, same as same-term};
+ghost use Rattle.algebra.specs.Term.{times, degree as degree-of, zero-past, in-variables, has, same as same-term};
 ghost use Rattle.algebra.specs.Border.{multiples-from, multiples};
 ghost use Rattle.term.specs.Letters.{first-variable, raised as raised-term};
 use crate::search::Test;
@@ -78,6 +78,13 @@ pub fn zero_past(t: &Term, n: usize) -> bool
         }
     }
     true
+}
+
+// Whether the term is in the first `n` variables.
+pub fn in_variables(t: &Term, n: usize) -> bool
+    ensures { λ r. ⌜ r ≡ in-variables n (now (t .entry)) ⌝ }
+{
+    zero_past(t, n)
 }
 
 pub fn degree(t: &Term) -> usize

@@ -1,0 +1,17 @@
+pub mod Bridge
+pub mod Keeping
+pub mod Ready
+pub mod Ruling
+pub mod Admitting
+pub mod Adding
+pub mod Searching
+pub mod Granting
+pub mod Filling
+pub mod Forming
+pub mod Meaning
+pub mod Judging
+pub mod Answering
+pub mod Growing
+pub mod Laying
+pub mod Closing
+pub mod Clashing
