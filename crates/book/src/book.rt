@@ -13,6 +13,7 @@ pub mod judging;
 pub mod mapping;
 pub mod rules;
 
+#[derive(Drop)]
 pub struct Book<F: Field> {
     field: F,
     contents: Contents,
