@@ -117,10 +117,11 @@ module _ (L : Ledger) where
   cofactors-admitted q p row slots h =
       let a = refuse-none (not (allowed (L .phase) Cofactors)) WrongPhase _ h in
       let b = pairs-admitted q p (length row) (refuse (ltb (length slots) (length (L .terms) * degrees p)) EntriesTooShort None) (a .1) in
-      let c = refuse-none (ltb (length slots) (length (L .terms) * degrees p)) EntriesTooShort None (b .rest) in
-      (sound-for (L .phase) (sym (like-form (L .phase) .0) ∙ not-false-true _ (a .0)),
-       record { inside = b .inside; long = b .long; few = b .few; low = b .low; rest = refl },
-       ltb-false _ _ (c .0))
+      let c = refuse-none (ltb (length slots) (length (L .terms) * degrees p)) EntriesTooShort None (b .rest) in (
+        sound-for (L .phase) (sym (like-form (L .phase) .0) ∙ not-false-true _ (a .0)),
+        record { inside = b .inside; long = b .long; few = b .few; low = b .low; rest = refl },
+        ltb-false _ _ (c .0),
+      )
 
   pub table-admitted : (i : ℕ) (t : Row) → judge-table L i t ≡ None → (L .phase ≡ Sound) × (length t ≡ length (L .terms) * length (L .terms)) × (1 ≤ i) × (i ≤ L .variables)
   table-admitted i t h =

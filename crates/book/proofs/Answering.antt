@@ -147,7 +147,7 @@ module _ (A : Arithmetic) (laws : CommutativeRing (ring A)) (k : Contents) (h : 
       let m = verdict-means laws (system (ledger k)) good o (sym found) slots in
       subst (λ (x : Verdict). Verdict-means (ring A) (system (ledger k)) x row′ slots′) (sym iv)
       (subst (λ (x : Row). Verdict-means (ring A) (system (ledger k)) (verdict (ring A) (system (ledger k)) o) x slots′) (sym ir)
-       (subst (Verdict-means (ring A) (system (ledger k)) (verdict (ring A) (system (ledger k)) o) (clash-row (ring A) (system (ledger k)) o)) (sym is) m))
+      (subst (Verdict-means (ring A) (system (ledger k)) (verdict (ring A) (system (ledger k)) o) (clash-row (ring A) (system (ledger k)) o)) (sym is) m))
 
 -- the row of a check without a clash
 pub cleared-row : (k : Contents) → kept k ≡ true → (row : Row) → length row ≡ k .basis .size → zeros-like row ≡ zeros (terms-of k)

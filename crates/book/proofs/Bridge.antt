@@ -46,7 +46,7 @@ module _ {R : Ring} (laws : CommutativeRing R) where
   add-zero-row (a ∷ v) [] c k h z = absurd (omega arith)
   add-zero-row (a ∷ v) (b ∷ w) c k h z =
       let head : R .sum a (R .product c b) ≡ a =
-          ap (λ (x : ℕ). R .sum a (R .product x b)) z ∙ ap (R .sum a) (derived laws .zero-product b) ∙ derived laws .sum-zero a ∙ read-code _ a (k .0) in
+      ap (λ (x : ℕ). R .sum a (R .product x b)) z ∙ ap (R .sum a) (derived laws .zero-product b) ∙ derived laws .sum-zero a ∙ read-code _ a (k .0) in
       λ i. head i ∷ add-zero-row v w c (k .1) (omega arith) z i
 
   -- a code is added at the place of a term
@@ -57,7 +57,7 @@ module _ {R : Ring} (laws : CommutativeRing R) where
   absent-unit (a ∷ v) (t ∷ ts) e c k h n =
       let p = or-parts (same e t) (has e ts) n in
       let head : R .sum a (R .product c (cond (same t e) 1 0)) ≡ a =
-          ap (λ (x : ℕ). R .sum a (R .product c x)) (cond-false _ 1 0 (same-sym e t (p .0))) ∙ ap (R .sum a) (derived laws .product-zero c) ∙ derived laws .sum-zero a ∙ read-code _ a (k .0) in
+      ap (λ (x : ℕ). R .sum a (R .product c x)) (cond-false _ 1 0 (same-sym e t (p .0))) ∙ ap (R .sum a) (derived laws .product-zero c) ∙ derived laws .sum-zero a ∙ read-code _ a (k .0) in
       λ i. head i ∷ absent-unit v ts e c (k .1) (omega arith) (p .1) i
 
   add-unit : (v : Row) (ts : List Term) (e : Term) (c : ℕ) → codes-below (R .order) v → length v ≡ length ts → Distinct ts → has e ts ≡ true → add-at R v (place e ts) c ≡ add-rows R v (scale R c (unit ts e))
@@ -70,14 +70,14 @@ module _ {R : Ring} (laws : CommutativeRing R) where
           let p = same-true e t q in
           let here : same t e ≡ true = ap (λ (x : Term). same t x) p ∙ same-refl t in
           let head : R .sum a c ≡ R .sum a (R .product c (cond (same t e) 1 0)) =
-              sym (ap (λ (x : ℕ). R .sum a (R .product c x)) (cond-true _ 1 0 here) ∙ ap (R .sum a) (derived laws .product-one c) ∙ sum-right laws a c) in
+          sym (ap (λ (x : ℕ). R .sum a (R .product c x)) (cond-true _ 1 0 here) ∙ ap (R .sum a) (derived laws .product-one c) ∙ sum-right laws a c) in
           let tail : v ≡ add-rows R v (scale R c (unit ts e)) = sym (absent-unit v ts e c (k .1) (omega arith) (ap (λ (x : Term). has x ts) p ∙ d .0)) in
           ap (λ (j : ℕ). add-at R (a ∷ v) j c) (cond-true _ 1 _ q) ∙ (λ i. head i ∷ tail i)
       go false q rest =
           let there : has e ts ≡ true = ⊎-elim (λ p. absurd (apart e t q p)) (λ p. p) (has-cases e t ts n) in
           let s = stands e ts there in
           let head : a ≡ R .sum a (R .product c (cond (same t e) 1 0)) =
-              sym (ap (λ (x : ℕ). R .sum a (R .product c x)) (cond-false _ 1 0 (same-sym e t q)) ∙ ap (R .sum a) (derived laws .product-zero c) ∙ derived laws .sum-zero a ∙ read-code _ a (k .0)) in
+          sym (ap (λ (x : ℕ). R .sum a (R .product c x)) (cond-false _ 1 0 (same-sym e t q)) ∙ ap (R .sum a) (derived laws .product-zero c) ∙ derived laws .sum-zero a ∙ read-code _ a (k .0)) in
           ap (λ (j : ℕ). add-at R (a ∷ v) j c) (cond-false _ 1 _ q ∙ ap next-place (s .is-place))
           ∙ ap (λ (u : Row). a ∷ u) (ap (λ (j : ℕ). add-at R v j c) (sym (s .is-place)) ∙ rest there) ∙ ap (λ (x : ℕ). x ∷ add-rows R v (scale R c (unit ts e))) head
 
@@ -93,13 +93,16 @@ module _ {R : Ring} (laws : CommutativeRing R) where
       where
         long : length (image B i t) ≡ length acc
         long = image-length laws B good i t h k ∙ sym (a .0)
+
         none : eqb c 0 ≡ true → cond (eqb c 0) acc (add-led R stored acc c (lead (B .terms) (borders B) (times i t))) ≡ add-rows R acc (scale R c (image B i t))
         none e = cond-true _ acc _ e ∙ sym (add-zero-row acc (image B i t) c (a .1) long (eqb-true c 0 e))
+
         inside : has (times i t) (B .terms) ≡ true → add-led R stored acc c (lead (B .terms) (borders B) (times i t)) ≡ add-rows R acc (scale R c (image B i t))
         inside e =
             ap (add-led R stored acc c) (cond-true _ (Inside (place (times i t) (B .terms))) _ e)
             ∙ add-unit acc (B .terms) (times i t) c (a .1) (a .0) (connected-distinct (B .variables) (B .terms) (good .is-connected)) e
             ∙ ap (λ (u : Row). add-rows R acc (scale R c u)) (sym (cond-true _ (unit (B .terms) (times i t)) _ e))
+
         outside : has (times i t) (borders B) ≡ true → add-led R stored acc c (lead (B .terms) (borders B) (times i t)) ≡ add-rows R acc (scale R c (image B i t))
         outside e =
             let s = stands (times i t) (borders B) e in
@@ -109,7 +112,8 @@ module _ {R : Ring} (laws : CommutativeRing R) where
             ∙ add-multiple-is acc c (getD stored (s .index) []) (omega (arith, st .0, a .0))
             ∙ ap (λ (d : ℕ). add-rows R acc (scale R c (take d (getD stored (s .index) [])))) (a .0)
             ∙ ap (λ (u : Row). add-rows R acc (scale R c u))
-              (sym (st .1) ∙ sym (cond-false _ (unit (B .terms) (times i t)) _ out ∙ ap (λ (j : ℕ). at-place j (B .rows) []) (s .is-place)))
+            (sym (st .1) ∙ sym (cond-false _ (unit (B .terms) (times i t)) _ out ∙ ap (λ (j : ℕ). at-place j (B .rows) []) (s .is-place)))
+
         some : eqb c 0 ≡ false → cond (eqb c 0) acc (add-led R stored acc c (lead (B .terms) (borders B) (times i t))) ≡ add-rows R acc (scale R c (image B i t))
         some e = cond-false _ acc _ e ∙ ⊎-elim inside outside (product-leads (B .variables) i (B .terms) t h k)
 
@@ -120,7 +124,7 @@ module _ {R : Ring} (laws : CommutativeRing R) where
         let k = within t (has-head t ts) in
         ap (λ (u : Row). map-led R stored u v (leads-of (B .terms) (borders B) i ts ++ more)) (one-led i acc c t h a k)
         ∙ map-led-is i h (add-rows R acc (scale R c (image B i t))) v ts more (add-row laws (B .terms) acc (scale R c (image B i t)) (a .0) (map-length _ (image B i t) ∙ image-length laws B good i t h k))
-          (λ s q. within s (has-tail s t ts q)) (omega arith)
+        (λ s q. within s (has-tail s t ts q)) (omega arith)
 
     pub advanced-is : (i : ℕ) → i < B .variables → (v : Row) (more : List Lead) → length v ≡ length (B .terms) → length (B .terms) ≤ 32 → advanced R stored (leads-of (B .terms) (borders B) i (B .terms) ++ more) v ≡ mapped R B i v
     advanced-is i h v more l few =
@@ -135,6 +139,7 @@ module _ {R : Ring} (laws : CommutativeRing R) where
         inside e =
             ap (led-entry c m) (cond-true _ (Inside (place (times i t) (B .terms))) _ e)
             ∙ ap (entry-at c m) (sym (place-absent (times i t) (borders B) (not-in-border (B .variables) (B .terms) (times i t) e)))
+
         outside : has (times i t) (borders B) ≡ true → led-entry c m (lead (B .terms) (borders B) (times i t)) ≡ entry-at c m (place (times i t) (borders B))
         outside e =
             let s = stands (times i t) (borders B) e in
@@ -163,4 +168,4 @@ module _ {R : Ring} (laws : CommutativeRing R) where
       walk-entries-is v [] l h = refl
       walk-entries-is v (i ∷ w) l h =
           λ j. column-entries i (spelled w) (l .0) v h j
-              ++ (ap (λ (u : Row). walk-entries R stored leads u w) (column-advanced i (l .0) v h) ∙ walk-entries-is (mapped R B i v) w (l .1) (mapped-row laws B good i (l .0) v .0)) j
+          ++ (ap (λ (u : Row). walk-entries R stored leads u w) (column-advanced i (l .0) v h) ∙ walk-entries-is (mapped R B i v) w (l .1) (mapped-row laws B good i (l .0) v .0)) j

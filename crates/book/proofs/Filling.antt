@@ -88,6 +88,7 @@ pushed-kept k t h e =
   where
     below : (m : ℕ) → m ≤ 32 → (m ≡ 32 → ⊥) → m < 32
     below m h ne = ⊎-elim (λ l. l) (λ l. absurd (ne (omega arith))) (cases-lt m 32)
+
     kept-rows-empty : (D E m : ℕ) (given : List Bool) (rows : List Row) → m ≡ 0 → kept-rows D (take m given) rows ≡ kept-rows E (take m given) rows
     kept-rows-empty D E m given rows z = ap (λ (j : ℕ). kept-rows D (take j given) rows) z ∙ sym (ap (λ (j : ℕ). kept-rows E (take j given) rows) z)
 

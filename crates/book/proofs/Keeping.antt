@@ -50,7 +50,6 @@ same-terms-refl : (ts : List Term) → same-terms ts ts ≡ true
 same-terms-refl [] = refl
 same-terms-refl (t ∷ ts) = and-from (same t t) _ (same-refl t) (same-terms-refl ts)
 
-
 sized-facts : (k : Contents) → sized k ≡ true → Sized k
 sized-facts k h =
     let h₂ = and-parts (eqb (length (k .basis .terms)) 32) _ h in
@@ -100,13 +99,13 @@ unfolding coherent
 keep k f =
     and-from _ _ (le-leb 1 _ (f .some-variable))
     (and-from _ _ (le-leb _ 8 (f .few-variables))
-     (and-from _ _ (le-leb _ 32 (f .few-terms))
-      (and-from _ _ (le-leb _ 256 (f .small-border))
-       (and-from _ _
-        (and-from _ _ (f .fit)
-         (and-from _ _ (subst (λ (ts : List Term). same-terms ts (border-in (k .phase) (k .basis .variables) (terms-of k)) ≡ true) (sym (f .is-border)) (same-terms-refl (border-in (k .phase) (k .basis .variables) (terms-of k))))
-          (and-from _ _ (f .is-led) (and-from _ _ (f .is-complete) (and-from _ _ (f .long-rows) (and-from _ _ (keep-sized k (f .arrays)) refl))))))
-        refl))))
+    (and-from _ _ (le-leb _ 32 (f .few-terms))
+    (and-from _ _ (le-leb _ 256 (f .small-border))
+    (and-from _ _
+    (and-from _ _ (f .fit)
+    (and-from _ _ (subst (λ (ts : List Term). same-terms ts (border-in (k .phase) (k .basis .variables) (terms-of k)) ≡ true) (sym (f .is-border)) (same-terms-refl (border-in (k .phase) (k .basis .variables) (terms-of k))))
+    (and-from _ _ (f .is-led) (and-from _ _ (f .is-complete) (and-from _ _ (f .long-rows) (and-from _ _ (keep-sized k (f .arrays)) refl))))))
+    refl))))
 
 same-lead-true : (l m : Lead) → same-lead l m ≡ true → l ≡ m
 same-lead-true (Inside a) (Inside b) h = ap Inside (eqb-true a b h)

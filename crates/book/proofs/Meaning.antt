@@ -64,9 +64,13 @@ step-few B i m (c ∷ v) (t ∷ ts) =
 entries-few : (R : Ring) (B : System) (v : Row) (w : List ℕ) → length (entries R B v w) ≤ length (B .terms) * length w
 entries-few R B v [] = omega arith
 entries-few R B v (i ∷ w) =
-    omega
-    (arith, length-append (step-entries B i (spelled w) v (B .terms)) (entries R B (mapped R B i v) w), step-few B i (spelled w) v (B .terms), entries-few R B (mapped R B i v) w,
-     mul-suc (length (B .terms)) (length w))
+    omega (
+      arith,
+      length-append (step-entries B i (spelled w) v (B .terms)) (entries R B (mapped R B i v) w),
+      step-few B i (spelled w) v (B .terms),
+      entries-few R B (mapped R B i v) w,
+      mul-suc (length (B .terms)) (length w),
+    )
 
 word-long : (i : ℕ) (t : Term) → length (word-from i t) ≡ degree t
 word-long i [] = refl
@@ -103,12 +107,12 @@ module _ {R : Ring} (laws : CommutativeRing R) (B : System) (good : Lawful-syste
       let t = clash-term B x in
       let within : x .term < length (B .terms) = omega (arith, c .within) in
       let non : all-zero (commutator R B (x .a) (x .b) t) ≡ false =
-          ap (λ (j : ℕ). all-zero (commutator R B (x .a) (x .b) (getD (B .terms) j []))) (sym z) ∙ c .nonzero in
+      ap (λ (j : ℕ). all-zero (commutator R B (x .a) (x .b) (getD (B .terms) j []))) (sym z) ∙ c .nonzero in
       subst (Accounted R B (clash-row R B (Some x))) (sym (take-written (clash-entries R B (Some x)) slots))
       (record {
-         dependence = clash-dependence laws B good t (x .a) (x .b) (getD-has (B .terms) (x .term) within) (omega arith) q non;
-         adds-up = walks-account-always R laws B good .of-a-commutator (x .a) (x .b) t (omega arith) q;
-       })
+        dependence = clash-dependence laws B good t (x .a) (x .b) (getD-has (B .terms) (x .term) within) (omega arith) q non;
+        adds-up = walks-account-always R laws B good .of-a-commutator (x .a) (x .b) t (omega arith) q;
+      })
 
   pub form-means : (p : Polynomial) → Over (B .variables) p → Form-means R B p (normal-form R B p) (all-zero (normal-form R B p))
   form-means p over =

@@ -131,9 +131,10 @@ ready-contents k h r =
         are-rows = given-long (k .basis .size) (terms-of k) size gs (k .rules .rows) fits (f .long-rows) few nothing;
       };
       stored = λ j l.
-          let less : j < k .border .size = omega (arith, l, long) in
-          (omega (arith, long-row (k .rules .rows) j (f .long-rows) (omega (arith, s .rows-long, small, less)), size, few),
-           given-at (k .basis .size) gs (k .rules .rows) fits nothing j (omega (arith, less, flags)) ∙ ap (λ (d : ℕ). take d (getD (k .rules .rows) j [])) (sym size));
+          let less : j < k .border .size = omega (arith, l, long) in (
+            omega (arith, long-row (k .rules .rows) j (f .long-rows) (omega (arith, s .rows-long, small, less)), size, few),
+            given-at (k .basis .size) gs (k .rules .rows) fits nothing j (omega (arith, less, flags)) ∙ ap (λ (d : ℕ). take d (getD (k .rules .rows) j [])) (sym size),
+          );
       leading = λ i l.
           let c = column (terms-of k) (border-of k) (k .basis .variables) (k .border .leads) (sym (closed-led (k .phase) (terms-of k) (border-of k) (k .basis .variables) (k .border .leads) (p .0)) ∙ f .is-led) i l in
           (c .0, c .1 ∙ ap (λ (e : List Term). leads-of (terms-of k) e i (terms-of k) ++ c .0) E);
@@ -154,7 +155,7 @@ zeros-set (a ∷ v) (t ∷ ts) zero d l h = λ i. sym (cond-true _ 1 0 (same-ref
     rest (b ∷ w) (u ∷ us) e q n = let p = or-parts (same e u) (has e us) n in λ i. sym (cond-false _ 1 0 (same-sym e u (p .0))) i ∷ rest w us e (omega arith) (p .1) i
 zeros-set (a ∷ v) (t ∷ ts) (suc j) d l h =
     let other : same t (getD ts j []) ≡ false =
-        ⊎-elim (λ e. absurd (both-ways _ (d .0) (subst (λ (s : Term). has s ts ≡ true) (sym (same-true t (getD ts j []) e)) (getD-has ts j (omega arith))))) (λ e. e) (cases-bool (same t (getD ts j []))) in
+    ⊎-elim (λ e. absurd (both-ways _ (d .0) (subst (λ (s : Term). has s ts ≡ true) (sym (same-true t (getD ts j []) e)) (getD-has ts j (omega arith))))) (λ e. e) (cases-bool (same t (getD ts j []))) in
     λ i. sym (cond-false _ 1 0 other) i ∷ zeros-set v ts j (d .1) (omega arith) (omega arith) i
 
 pub unit-at : (k : Contents) → kept k ≡ true → ready k ≡ true → (v : Row) (j : ℕ) → length v ≡ k .basis .size → j < k .basis .size → set (zeros-like v) j 1 ≡ unit (terms-of k) (getD (terms-of k) j [])

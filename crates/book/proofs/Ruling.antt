@@ -91,7 +91,7 @@ module _ (k : Contents) (e : Term) (p : ℕ) (h : kept k ≡ true) (c : is-close
           terms = terms-of k;
           phase = Closed;
           rows = (kept-rows-set (k .basis .size) (k .border .size) p (k .rules .given) (k .rules .rows) true r within (omega (arith, f .arrays .given-long)) (omega (arith, f .arrays .rows-long))
-                  ∙ (λ j. set (rows-of k) (sym at j) (Some (is j)))) i;
+              ∙ (λ j. set (rows-of k) (sym at j) (Some (is j)))) i;
         };
       }
 
@@ -106,7 +106,7 @@ module _ (k : Contents) (e : Term) (p : ℕ) (h : kept k ≡ true) (c : is-close
           terms = terms-of k;
           phase = Closed;
           rows = (kept-flag-set (k .basis .size) (k .border .size) p (k .rules .given) (k .rules .rows) within (omega (arith, f .arrays .given-long)) (omega (arith, f .arrays .rows-long))
-                  ∙ (λ j. set (rows-of k) (sym at j) None)) i;
+              ∙ (λ j. set (rows-of k) (sym at j) None)) i;
         };
       }
 

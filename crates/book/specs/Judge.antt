@@ -84,8 +84,8 @@ abbrev pub judge-rule : ℕ → Ledger → Term → ℕ → Row → Option Refus
 judge-rule q L e k r =
     refuse-phase L GiveRule
     (judge-border L e
-     (refuse (not (eqb (length r) (length (L .terms)))) WrongLength
-      (refuse-at (first-place (unfit q) (k ∷ r)) CodeOutOfRange (refuse (eqb k 0) ZeroLeadingCode None))))
+    (refuse (not (eqb (length r) (length (L .terms)))) WrongLength
+    (refuse-at (first-place (unfit q) (k ∷ r)) CodeOutOfRange (refuse (eqb k 0) ZeroLeadingCode None))))
 
 abbrev pub judge-strike : Ledger → Term → Option Refusal
 judge-strike L e =
@@ -96,15 +96,15 @@ abbrev pub judge-check : Ledger → Row → List Entry → Option Refusal
 judge-check L row slots =
     refuse-phase L Check
     (refuse (not (eqb (length row) (length (L .terms)))) WrongLength
-     (refuse-at (first-place missing (L .rows)) RuleMissing (refuse (ltb (length slots) (2 * length (L .terms) + 2)) EntriesTooShort None)))
+    (refuse-at (first-place missing (L .rows)) RuleMissing (refuse (ltb (length slots) (2 * length (L .terms) + 2)) EntriesTooShort None)))
 
 -- the causes of form and cofactors but the phase and the slots; the row has `size` codes
 abbrev pub judge-pairs : ℕ → Ledger → Polynomial → ℕ → Option Refusal → Option Refusal
 judge-pairs q L p size later =
     refuse-at (first-place (past-variables (L .variables)) p) ExponentPastVariables
     (refuse (not (eqb size (length (L .terms)))) WrongLength
-     (refuse-at (first-place (unfit-pair q) p) CodeOutOfRange
-      (refuse (ltb 64 (length p)) TooManyPairs (refuse-at (first-place too-high p) DegreeTooHigh later))))
+    (refuse-at (first-place (unfit-pair q) p) CodeOutOfRange
+    (refuse (ltb 64 (length p)) TooManyPairs (refuse-at (first-place too-high p) DegreeTooHigh later))))
 
 abbrev pub judge-form : ℕ → Ledger → Polynomial → Row → Option Refusal
 judge-form q L p row = refuse-phase L Form (judge-pairs q L p (length row) None)

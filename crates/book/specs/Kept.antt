@@ -102,7 +102,7 @@ unfoldable pub coherent : Contents → Bool
 coherent k =
     all-true
     (terms-fit (k .basis .variables) (terms-of k) ∷ same-terms (border-of k) (border-in (k .phase) (k .basis .variables) (terms-of k))
-     ∷ led-in (k .phase) (terms-of k) (border-of k) (k .basis .variables) (k .border .leads) ∷ complete-in (k .phase) (terms-of k) (rows-of k) ∷ all-long (k .rules .rows) ∷ sized k ∷ [])
+    ∷ led-in (k .phase) (terms-of k) (border-of k) (k .basis .variables) (k .border .leads) ∷ complete-in (k .phase) (terms-of k) (rows-of k) ∷ all-long (k .rules .rows) ∷ sized k ∷ [])
 
 abbrev pub kept : Contents → Bool
 kept k =

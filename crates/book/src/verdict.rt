@@ -2,5 +2,10 @@
 #[derive(Clone, Copy, Debug, PartialEq)]
 pub enum Verdict {
     Consistent,
-    Clashes { term: usize, a: usize, b: usize, entries: usize },
+    Clashes {
+        term: usize,
+        a: usize,
+        b: usize,
+        entries: usize,
+    },
 }

@@ -223,6 +223,7 @@ next-stands A b L tie s = go (judge A L s) refl s refl
     after (form p row) e = tie
     after (cofactor p row slots) e = tie
     after (table i rows) e = tie
+
     go : (o : Option Refusal) → judge A L s ≡ o → (t : Step) → s ≡ t → stands b s (granted o (value A L s)) ≡ is-sound (on-grant o (changed A L s) L .phase)
     go None e t _ = after s e
     go (Some r) e t _ = tie
@@ -285,9 +286,10 @@ module _ (A : Arithmetic) (laws : Lawful A) (L : Ledger) (k : Kept A L) where
 
 run-keeps : (A : Arithmetic) → Lawful A → (b : Bool) (L : Ledger) → Kept A L → b ≡ is-sound (L .phase) → (ss : List Step) → Run-law A b L ss (run A L ss)
 run-keeps A laws b L k tie [] = tt
-run-keeps A laws b L k tie (s ∷ ss) =
-    (record { answers = refl; slices = refl; granted-exactly = granted-exactly A b L tie s; meaning = call-meaning A laws L k s },
-     run-keeps A laws (stands b s (answer A L s)) (next A L s) (next-kept A L k s) (next-stands A b L tie s) ss)
+run-keeps A laws b L k tie (s ∷ ss) = (
+  record { answers = refl; slices = refl; granted-exactly = granted-exactly A b L tie s; meaning = call-meaning A laws L k s },
+  run-keeps A laws (stands b s (answer A L s)) (next A L s) (next-kept A L k s) (next-stands A b L tie s) ss,
+)
 
 -- every list of calls on a new book
 pub run-law : (A : Arithmetic) → Lawful A → (ss : List Step) → Run-law A false new-ledger ss (run A new-ledger ss)

@@ -40,8 +40,8 @@ module _ (A B : Arithmetic) (before after : List Line) (j : ℕ) (d : Line) (cal
       let s = step-of (getD before j d .call) in
       let on : step-of (getD after j d .call) ≡ s = ap (λ (l : Line). step-of (l .call)) same in
       let first : noted (line ∷ []) ++ listed (run A M (steps-of (drop (j + 1) before))) ≡ listed (run A L (steps-of (drop j before))) =
-          (λ i. ((wrote ∙ (λ k. finish (field k) L (on k))) i, Some ((said ∙ (λ k. answer (field k) L (on k))) i)) ∷ listed (run A ((then ∙ (λ k. next (field k) L (on k))) i) (steps-of (drop (j + 1) before))))
-          ∙ ap (λ (ls : List Line). listed (run A L (steps-of ls))) (sym split) in
+      (λ i. ((wrote ∙ (λ k. finish (field k) L (on k))) i, Some ((said ∙ (λ k. answer (field k) L (on k))) i)) ∷ listed (run A ((then ∙ (λ k. next (field k) L (on k))) i) (steps-of (drop (j + 1) before))))
+      ∙ ap (λ (ls : List Line). listed (run A L (steps-of ls))) (sym split) in
       record {
         rest = drop-set-lt (j + 1) after j line (omega arith) ∙ ap (drop 1) halves;
         done =

@@ -108,7 +108,11 @@ fn run_strike<F: Field>(book: &mut Book<F>, e: Term) -> Result<Answer, Refusal>
     done(book.strike(e))
 }
 
-fn run_check<F: Field>(book: &mut Book<F>, row: &mut Vec<u16>, slots: &mut Vec<Entry>) -> Result<Answer, Refusal>
+fn run_check<F: Field>(
+    book: &mut Book<F>,
+    row: &mut Vec<u16>,
+    slots: &mut Vec<Entry>,
+) -> Result<Answer, Refusal>
     ensures answer { λ r. ⌜ r ≡ answer-of (F·Field .meaning (now (book .entry) .field)) (ledger (now (book .entry) .contents)) (check-step (vec-items (now (row .entry))) (vec-items (now (slots .entry)))) ⌝ }
     ensures after { λ _. ⌜ ledger (now (book .exit) .contents) ≡ next (F·Field .meaning (now (book .entry) .field)) (ledger (now (book .entry) .contents)) (check-step (vec-items (now (row .entry))) (vec-items (now (slots .entry)))) ⌝ }
     ensures finish { λ _. ⌜ check-step (vec-items (now (row .exit))) (vec-items (now (slots .exit))) ≡ finish-of (F·Field .meaning (now (book .entry) .field)) (ledger (now (book .entry) .contents)) (check-step (vec-items (now (row .entry))) (vec-items (now (slots .entry)))) ⌝ }
@@ -117,7 +121,11 @@ fn run_check<F: Field>(book: &mut Book<F>, row: &mut Vec<u16>, slots: &mut Vec<E
     checked(book.check(row, slots))
 }
 
-fn run_form<F: Field>(book: &mut Book<F>, p: &Vec<(u16, Term)>, row: &mut Vec<u16>) -> Result<Answer, Refusal>
+fn run_form<F: Field>(
+    book: &mut Book<F>,
+    p: &Vec<(u16, Term)>,
+    row: &mut Vec<u16>,
+) -> Result<Answer, Refusal>
     ensures answer { λ r. ⌜ r ≡ answer-of (F·Field .meaning (now (book .entry) .field)) (ledger (now (book .entry) .contents)) (form-step (vec-items (now (p .entry))) (vec-items (now (row .entry)))) ⌝ }
     ensures after { λ _. ⌜ ledger (now (book .exit) .contents) ≡ next (F·Field .meaning (now (book .entry) .field)) (ledger (now (book .entry) .contents)) (form-step (vec-items (now (p .entry))) (vec-items (now (row .entry)))) ⌝ }
     ensures finish { λ _. ⌜ form-step (vec-items (now (p .entry))) (vec-items (now (row .exit))) ≡ finish-of (F·Field .meaning (now (book .entry) .field)) (ledger (now (book .entry) .contents)) (form-step (vec-items (now (p .entry))) (vec-items (now (row .entry)))) ⌝ }
@@ -126,7 +134,12 @@ fn run_form<F: Field>(book: &mut Book<F>, p: &Vec<(u16, Term)>, row: &mut Vec<u1
     formed(book.form(p, row))
 }
 
-fn run_cofactors<F: Field>(book: &mut Book<F>, p: &Vec<(u16, Term)>, row: &mut Vec<u16>, slots: &mut Vec<Entry>) -> Result<Answer, Refusal>
+fn run_cofactors<F: Field>(
+    book: &mut Book<F>,
+    p: &Vec<(u16, Term)>,
+    row: &mut Vec<u16>,
+    slots: &mut Vec<Entry>,
+) -> Result<Answer, Refusal>
     ensures answer { λ r. ⌜ r ≡ answer-of (F·Field .meaning (now (book .entry) .field)) (ledger (now (book .entry) .contents)) (cofactor-step (vec-items (now (p .entry))) (vec-items (now (row .entry))) (vec-items (now (slots .entry)))) ⌝ }
     ensures after { λ _. ⌜ ledger (now (book .exit) .contents) ≡ next (F·Field .meaning (now (book .entry) .field)) (ledger (now (book .entry) .contents)) (cofactor-step (vec-items (now (p .entry))) (vec-items (now (row .entry))) (vec-items (now (slots .entry)))) ⌝ }
     ensures finish { λ _. ⌜ cofactor-step (vec-items (now (p .entry))) (vec-items (now (row .exit))) (vec-items (now (slots .exit))) ≡ finish-of (F·Field .meaning (now (book .entry) .field)) (ledger (now (book .entry) .contents)) (cofactor-step (vec-items (now (p .entry))) (vec-items (now (row .entry))) (vec-items (now (slots .entry)))) ⌝ }

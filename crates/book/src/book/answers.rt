@@ -63,7 +63,12 @@ impl<F: Field> Book<F> {
     }
 
     // The same, and the entries that account for the difference; answers their number, and 1 for yes or 0 for no.
-    pub fn cofactors(&self, p: &[(u16, Term)], row: &mut [u16], slots: &mut [Entry]) -> Result<(usize, u8), Refusal>
+    pub fn cofactors(
+        &self,
+        p: &[(u16, Term)],
+        row: &mut [u16],
+        slots: &mut [Entry],
+    ) -> Result<(usize, u8), Refusal>
         ensures answer { λ r. ⌜ r ≡ granted (judge-cofactors (F·Field .meaning (now (self .entry) .field) .order) (ledger (now (self .entry) .contents)) (now (p .entry)) (now (row .entry)) (now (slots .entry))) (length (cofactor-entries (ring (F·Field .meaning (now (self .entry) .field))) (system (ledger (now (self .entry) .contents))) (now (p .entry))), yes-no (all-zero (normal-form (ring (F·Field .meaning (now (self .entry) .field))) (system (ledger (now (self .entry) .contents))) (now (p .entry))))) ⌝ }
         ensures row { λ _. ⌜ now (row .exit) ≡ on-grant (judge-cofactors (F·Field .meaning (now (self .entry) .field) .order) (ledger (now (self .entry) .contents)) (now (p .entry)) (now (row .entry)) (now (slots .entry))) (normal-form (ring (F·Field .meaning (now (self .entry) .field))) (system (ledger (now (self .entry) .contents))) (now (p .entry))) (now (row .entry)) ⌝ }
         ensures slots { λ _. ⌜ now (slots .exit) ≡ on-grant (judge-cofactors (F·Field .meaning (now (self .entry) .field) .order) (ledger (now (self .entry) .contents)) (now (p .entry)) (now (row .entry)) (now (slots .entry))) (written (cofactor-entries (ring (F·Field .meaning (now (self .entry) .field))) (system (ledger (now (self .entry) .contents))) (now (p .entry))) (now (slots .entry))) (now (slots .entry)) ⌝ }

@@ -12,15 +12,16 @@ pub loop-line-holds : need.loop-line-holds
 loop-line-holds g c = (refl, replaying-new (g .F·Field .meaning (c .new-book .result .field)) (c .args .lines .now) (ledger (c .new-book .result .contents)) (c .new-book .ensures .contents))
 
 pub loop-line-again : need.loop-line-again
-loop-line-again g c =
-    (c .perform .ensures .field ∙ c .loop-line .inv .0,
-      replaying-more (g .F·Field .meaning (c .new-book .result .field)) (g .F·Field .meaning (c .loop-line .book .field)) (c .args .lines .now) (c .loop-line .lines) (c .loop-line .line-index) _ (c .perform .last .call) (c .perform .result) (ledger (c .loop-line .book .contents)) (ledger (c .perform .last .book .contents))
-        (c .loop-line-test .taken) (c .loop-line .kept .lines) (ap (g .F·Field .meaning) (c .loop-line .inv .0)) (c .loop-line .inv .1) (c .perform .ensures .answer) (c .perform .ensures .after) (c .perform .ensures .finish))
+loop-line-again g c = (
+  c .perform .ensures .field ∙ c .loop-line .inv .0,
+  replaying-more (g .F·Field .meaning (c .new-book .result .field)) (g .F·Field .meaning (c .loop-line .book .field)) (c .args .lines .now) (c .loop-line .lines) (c .loop-line .line-index) _ (c .perform .last .call) (c .perform .result) (ledger (c .loop-line .book .contents)) (ledger (c .perform .last .book .contents))
+      (c .loop-line-test .taken) (c .loop-line .kept .lines) (ap (g .F·Field .meaning) (c .loop-line .inv .0)) (c .loop-line .inv .1) (c .perform .ensures .answer) (c .perform .ensures .after) (c .perform .ensures .finish),
+)
 
 pub returns : need.returns
 returns g c =
     let A = g .F·Field .meaning (c .args .field) in
     let ss = steps-of (c .args .lines .now) in
     let ran = replaying-all (g .F·Field .meaning (c .new-book .result .field)) (c .args .lines .now) (c .loop-line .lines) (c .loop-line .line-index) (ledger (c .loop-line .book .contents)) (c .loop-line-test .left) (c .loop-line .kept .lines) (c .loop-line .inv .1)
-        ∙ ap (λ (B : Arithmetic). listed (run B new-ledger ss)) (ap (g .F·Field .meaning) (c .new-book .ensures .field)) in
+    ∙ ap (λ (B : Arithmetic). listed (run B new-ledger ss)) (ap (g .F·Field .meaning) (c .new-book .ensures .field)) in
     record { run = ran; law = (run A new-ledger ss, ran, run-law A (g .F·Field·met .lawful (c .args .field)) ss) }

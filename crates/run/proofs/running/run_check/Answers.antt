@@ -34,7 +34,7 @@ returns g c =
       finish =
           (λ i. check (refilled-is (c .args .row .now) (c .check .last .row) (c .check .kept .row ∙ c .deref-mut .ensures .len) i) (refilled-is (c .args .slots .now) (c .check .last .slots) (c .check .kept .slots ∙ c .deref-mut-2 .ensures .len) i))
           ∙ on-grant-two check (judge-check L row slots) (clash-row R B f) row (c .check .last .row) (written (clash-entries R B f) slots) slots (c .check .last .slots)
-            (c .check .ensures .row ∙ (λ i. on-grant (judge-check L (e i) (d i)) (clash-row R B f) (e i)))
-            (c .check .ensures .slots ∙ (λ i. on-grant (judge-check L (e i) (d i)) (written (clash-entries R B f) (d i)) (d i)));
+          (c .check .ensures .row ∙ (λ i. on-grant (judge-check L (e i) (d i)) (clash-row R B f) (e i)))
+          (c .check .ensures .slots ∙ (λ i. on-grant (judge-check L (e i) (d i)) (written (clash-entries R B f) (d i)) (d i)));
       field = c .check .ensures .field;
     }

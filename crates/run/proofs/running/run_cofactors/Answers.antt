@@ -36,7 +36,7 @@ returns g c =
       finish =
           (λ i. cofactor p (refilled-is (c .args .row .now) (c .cofactors .last .row) (c .cofactors .kept .row ∙ c .deref-mut .ensures .len) i) (refilled-is (c .args .slots .now) (c .cofactors .last .slots) (c .cofactors .kept .slots ∙ c .deref-mut-2 .ensures .len) i))
           ∙ on-grant-two (cofactor p) (judge-cofactors (A .order) L p row slots) (normal-form R B p) row (c .cofactors .last .row) (written (cofactors R B p) slots) slots (c .cofactors .last .slots)
-            (c .cofactors .ensures .row ∙ (λ i. on-grant (judge-cofactors (A .order) L (b i) (e i) (d i)) (normal-form R B (b i)) (e i)))
-            (c .cofactors .ensures .slots ∙ (λ i. on-grant (judge-cofactors (A .order) L (b i) (e i) (d i)) (written (cofactors R B (b i)) (d i)) (d i)));
+          (c .cofactors .ensures .row ∙ (λ i. on-grant (judge-cofactors (A .order) L (b i) (e i) (d i)) (normal-form R B (b i)) (e i)))
+          (c .cofactors .ensures .slots ∙ (λ i. on-grant (judge-cofactors (A .order) L (b i) (e i) (d i)) (written (cofactors R B (b i)) (d i)) (d i)));
       field = refl;
     }

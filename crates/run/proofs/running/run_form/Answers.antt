@@ -33,6 +33,6 @@ returns g c =
       finish =
           ap (form p) (refilled-is (c .args .row .now) (c .form .last .row) (c .form .kept .row ∙ c .deref-mut .ensures .len))
           ∙ on-grant-one (form p) (judge-form (A .order) L p row) (normal-form R B p) row (c .form .last .row)
-            (c .form .ensures .row ∙ (λ i. on-grant (judge-form (A .order) L (b i) (e i)) (normal-form R B (b i)) (e i)));
+          (c .form .ensures .row ∙ (λ i. on-grant (judge-form (A .order) L (b i) (e i)) (normal-form R B (b i)) (e i)));
       field = refl;
     }

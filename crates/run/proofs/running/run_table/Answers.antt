@@ -31,6 +31,6 @@ returns g c =
       finish =
           ap (table (c .args .i)) (refilled-is (c .args .rows .now) (c .table .last .table) (c .table .kept .table ∙ c .deref-mut .ensures .len))
           ∙ on-grant-one (table (c .args .i)) (judge-table L (c .args .i) rows) (table-rows R B (c .args .i - 1) (L .terms)) rows (c .table .last .table)
-            (c .table .ensures .table ∙ (λ i. on-grant (judge-table L (c .args .i) (e i)) (table-rows R B (c .args .i - 1) (L .terms)) (e i)));
+          (c .table .ensures .table ∙ (λ i. on-grant (judge-table L (c .args .i) (e i)) (table-rows R B (c .args .i - 1) (L .terms)) (e i)));
       field = refl;
     }

@@ -11,4 +11,4 @@ returns g c =
     let a = ready-contents k (c .args .self .now .kept) (c .pre .0) in
     c .advance .ensures
     ∙ column-advanced (g .F·Field·met .lawful (c .args .self .now .field) .commutative-ring) (system (ledger k)) (a .good) (k .rules .rows) (a .stored) (a .few) (k .border .leads) (a .leading) (c .args .i) (c .pre .1 .0)
-      (c .args .row .now) (c .pre .1 .1 ∙ sym (a .size))
+    (c .args .row .now) (c .pre .1 .1 ∙ sym (a .size))

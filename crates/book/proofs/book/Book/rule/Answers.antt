@@ -46,9 +46,11 @@ module _ (A : Arithmetic) (k : Contents) (e : Term) (lead : ℕ) (row : Row) (h 
 
 pub ghost-self : need.ghost-self
 ghost-self g c =
-    let p = c .in-Continue-place .ensures tt in
-    (given (g .F·Field .meaning (c .args .self .now .field)) (c .args .self .now .contents) (c .args .e) (c .args .k) (c .args .row .now) (c .args .self .now .kept) (c .in-Continue-place .place) (p .value) (p .bound .0) (p .bound .1)
-     (c .kept-row-codes .result) (c .unwrap-or-inverse .result) (c .unwrap-or-inverse .ensures ∙ ap (λ (o : Option ℕ). valueOr o 0) (c .inverse .ensures)) (c .kept-row-codes .ensures .codes) (c .kept-row-codes .ensures .long) .still-kept, tt)
+    let p = c .in-Continue-place .ensures tt in (
+      given (g .F·Field .meaning (c .args .self .now .field)) (c .args .self .now .contents) (c .args .e) (c .args .k) (c .args .row .now) (c .args .self .now .kept) (c .in-Continue-place .place) (p .value) (p .bound .0) (p .bound .1)
+          (c .kept-row-codes .result) (c .unwrap-or-inverse .result) (c .unwrap-or-inverse .ensures ∙ ap (λ (o : Option ℕ). valueOr o 0) (c .inverse .ensures)) (c .kept-row-codes .ensures .codes) (c .kept-row-codes .ensures .long) .still-kept,
+      tt,
+    )
 
 pub returns : need.returns
 returns g c =
@@ -57,7 +59,7 @@ returns g c =
     let p = c .in-Continue-place .ensures tt in
     let o = none-from _ _ _ (sym (p .value)) in
     let a = given A k (c .args .e) (c .args .k) (c .args .row .now) (c .args .self .now .kept) (c .in-Continue-place .place) (p .value) (p .bound .0) (p .bound .1)
-        (c .kept-row-codes .result) (c .unwrap-or-inverse .result) (c .unwrap-or-inverse .ensures ∙ ap (λ (x : Option ℕ). valueOr x 0) (c .inverse .ensures)) (c .kept-row-codes .ensures .codes) (c .kept-row-codes .ensures .long) in
+    (c .kept-row-codes .result) (c .unwrap-or-inverse .result) (c .unwrap-or-inverse .ensures ∙ ap (λ (x : Option ℕ). valueOr x 0) (c .inverse .ensures)) (c .kept-row-codes .ensures .codes) (c .kept-row-codes .ensures .long) in
     record {
       answer = ap (λ (x : Option Refusal). granted x tt) (sym o);
       after = a .is-ledger ∙ ap (λ (x : Option Refusal). on-grant x (with-row (ledger k) (c .args .e) (Some (kept-row A (c .args .k) (c .args .row .now)))) (ledger k)) (sym o);

@@ -17,9 +17,11 @@ use Rattle.book.proofs.book.Book.strike.Needs as need
 pub ghost-self : need.ghost-self
 ghost-self g c =
     let k = c .args .self .now .contents in
-    let e = sym (c .in-Continue-place .ensures tt .value) in
-    (strike-kept k (c .args .e) (c .in-Continue-place .place - 1) (c .args .self .now .kept) (strike-admitted (ledger k) (c .args .e) (none-from _ _ _ e))
-     (ap (λ (x : ℕ). x - 1) (value-from _ _ _ e)) (omega (arith, c .in-Continue-place .ensures tt .bound)) .still-kept, tt)
+    let e = sym (c .in-Continue-place .ensures tt .value) in (
+      strike-kept k (c .args .e) (c .in-Continue-place .place - 1) (c .args .self .now .kept) (strike-admitted (ledger k) (c .args .e) (none-from _ _ _ e))
+          (ap (λ (x : ℕ). x - 1) (value-from _ _ _ e)) (omega (arith, c .in-Continue-place .ensures tt .bound)) .still-kept,
+      tt,
+    )
 
 pub returns : need.returns
 returns g c =
@@ -27,7 +29,7 @@ returns g c =
     let e = sym (c .in-Continue-place .ensures tt .value) in
     let o = none-from _ _ _ e in
     let a = strike-kept k (c .args .e) (c .in-Continue-place .place - 1) (c .args .self .now .kept) (strike-admitted (ledger k) (c .args .e) o)
-        (ap (λ (x : ℕ). x - 1) (value-from _ _ _ e)) (omega (arith, c .in-Continue-place .ensures tt .bound)) in
+    (ap (λ (x : ℕ). x - 1) (value-from _ _ _ e)) (omega (arith, c .in-Continue-place .ensures tt .bound)) in
     record {
       answer = ap (λ (x : Option Refusal). granted x tt) (sym o);
       after = a .is-ledger ∙ ap (λ (x : Option Refusal). on-grant x (with-row (ledger k) (c .args .e) None) (ledger k)) (sym o);

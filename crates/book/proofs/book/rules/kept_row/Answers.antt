@@ -7,9 +7,11 @@ use Rattle.book.proofs.book.rules.kept_row.Needs as need
 
 pub loop-j-again : need.loop-j-again
 loop-j-again g c =
-    let i = c .loop-j .inv in
-    (length-set (c .loop-j .codes) (c .loop-j .j) (c .product .result) ∙ i .0, omega arith,
-     codes-more (λ (x : ℕ). g .F·Field .meaning (c .args .f .now) .product x (c .args .inverse)) (c .args .row .now) (c .loop-j .codes) (c .loop-j .j) (c .product .result) (i .0) (c .loop-j-test .taken) (c .pre) (i .2) (c .product .ensures))
+    let i = c .loop-j .inv in (
+      length-set (c .loop-j .codes) (c .loop-j .j) (c .product .result) ∙ i .0,
+      omega arith,
+      codes-more (λ (x : ℕ). g .F·Field .meaning (c .args .f .now) .product x (c .args .inverse)) (c .args .row .now) (c .loop-j .codes) (c .loop-j .j) (c .product .result) (i .0) (c .loop-j-test .taken) (c .pre) (i .2) (c .product .ensures),
+    )
 
 pub returns : need.returns
 returns g c =

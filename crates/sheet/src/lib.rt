@@ -1,0 +1,36 @@
+// The byte format of a sheet: a heading of three numbers, then records.
+mod cursor;
+mod fault;
+mod kind;
+mod laws;
+mod number;
+mod numbers;
+mod reader;
+mod reading;
+mod record;
+
+pub use fault::Layer;
+pub use fault::LayerDebug;
+pub use fault::LayerPartialEq;
+pub use fault::NumberFault;
+pub use fault::RecordFault;
+pub use fault::RecordFaultFromNumber;
+pub use fault::SheetFault;
+pub use fault::SheetFaultDebug;
+pub use fault::SheetFaultFromRecord;
+pub use fault::SheetFaultPartialEq;
+pub use kind::Kind;
+pub use kind::KindDebug;
+pub use kind::KindPartialEq;
+pub use laws::examples_stand;
+pub use number::NumberCause;
+pub use number::NumberCauseDebug;
+pub use number::NumberCausePartialEq;
+pub use number::read_number;
+pub use numbers::Numbers;
+pub use reader::Placed;
+pub use reader::Reader;
+pub use reader::Record;
+pub use reading::OPENING;
+pub use record::Extent;
+pub use record::read_front;
