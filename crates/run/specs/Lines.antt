@@ -26,6 +26,8 @@ abbrev pub listed : List Ran → List (Step × Option (Result Answer Refusal))
 listed [] = []
 listed (x ∷ xs) = (x .0, Some (x .1)) ∷ listed xs
 
--- what the lines hold afterwards is a run of their calls on a new book, and that run keeps the law
-abbrev pub Replayed : Arithmetic → List Line → List Line → Type 0
-Replayed A before after = (xs : List Ran) × (noted after ≡ listed xs) × Run-law A false new-ledger (steps-of before) xs
+-- what the lines hold afterwards is a run of their calls on a new book, and every call of that run keeps the law
+pub record Replayed (A : Arithmetic) (before after : List Line) : Type 0 where
+  pub ran : List Ran
+  pub lines : noted after ≡ listed ran
+  pub keeps-law : Run-law A false new-ledger (steps-of before) ran

@@ -3,6 +3,7 @@ pub mod Counts
 pub mod Flats
 pub mod Pastes
 pub mod Readbacks
+pub mod Rewrites
 pub mod Sames
 pub mod Sheets
 pub mod Writebacks

@@ -129,16 +129,16 @@ module _ (s : State) (v : ℕ) (rest : List ℕ) (fits : v ≤ 65535) (stands : 
 
 -- the calls that follow the opening, one by one
 module _ (bytes : List ℕ) where
-  abbrev then-records : ℕ → ℕ → ℕ → State → Result Sheet SheetFault
+  abbrev pub then-records : ℕ → ℕ → ℕ → State → Result Sheet SheetFault
   then-records a b n s = next (read-all (length bytes) (begun n s)) (λ rs. Ok (record { field = a; modulus = b; variables = n; records = rs }))
 
-  abbrev then-variables : ℕ → ℕ → State → Result Sheet SheetFault
+  abbrev pub then-variables : ℕ → ℕ → State → Result Sheet SheetFault
   then-variables a b s = next (heading-number s) (λ n. then-records a b (n .0) (after-heading s))
 
-  abbrev then-modulus : ℕ → State → Result Sheet SheetFault
+  abbrev pub then-modulus : ℕ → State → Result Sheet SheetFault
   then-modulus a s = next (heading-number s) (λ b. then-variables a (b .0) (after-heading s))
 
-  abbrev then-field : State → Result Sheet SheetFault
+  abbrev pub then-field : State → Result Sheet SheetFault
   then-field s = next (heading-number s) (λ a. then-modulus (a .0) (after-heading s))
 
   by-calls : read-sheet bytes ≡ next (open-sheet bytes) then-field

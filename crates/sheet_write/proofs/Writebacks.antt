@@ -33,11 +33,11 @@ use Rattle.sheet_write.proofs.Counts.{Counted, right-from-counted}
 use Rattle.sheet_write.proofs.Readbacks.{limit-low}
 
 -- the other way that led to an answer
-passed : {A E : Type 0} (b : Bool) (f : E) (r : Result A E) (x : A) → cond b (Err f) r ≡ Ok x → (b ≡ false) × (r ≡ Ok x)
+pub passed : {A E : Type 0} (b : Bool) (f : E) (r : Result A E) (x : A) → cond b (Err f) r ≡ Ok x → (b ≡ false) × (r ≡ Ok x)
 passed true f r x e = let z : _≡_ {A = ℕ} 0 1 = cc in absurd (omega arith)
 passed false f r x e = (refl, e)
 
-placed-ok : (byte count : ℕ) (r : Reading) (p : ℕ × ℕ) → in-record (at-place byte count r) ≡ Ok p → r ≡ Ok p
+pub placed-ok : (byte count : ℕ) (r : Reading) (p : ℕ × ℕ) → in-record (at-place byte count r) ≡ Ok p → r ≡ Ok p
 placed-ok byte count (Ok q) p e = cc
 placed-ok byte count (Err cause) p e = let z : _≡_ {A = ℕ} 0 1 = cc in absurd (omega arith)
 

@@ -10,7 +10,7 @@ use Rattle.std.specs.declared.result.Result.the-variants.{Ok, Err}
 use Rattle.sheet.specs.declared.fault.RecordFault.{RecordFault}
 use Rattle.sheet.specs.declared.fault.SheetFault.{SheetFault}
 use Rattle.sheet.specs.Fault.{next}
-use Rattle.sheet.specs.Number.{number-bytes}
+use Rattle.sheet.specs.Number.{Bytes, number-bytes}
 use Rattle.sheet.specs.Numbers.{numbers-of}
 use Rattle.sheet.specs.Body.{kind-number}
 use Rattle.sheet.specs.Reading.{State, Seen, opening, open-sheet, heading, heading-number, after-number, begun, next-record, after-record}
@@ -68,9 +68,10 @@ pub record Heading-fits (s : Sheet) : Type 0 where
   pub modulus : s .modulus ≤ 65535
   pub variables : s .variables ≤ 65535
 
--- a sheet's bytes are those of its heading and then those of its records; a written sheet of at most 65,535 bytes reads back; other records give other bytes, and other sheets too
+-- a sheet's bytes are those of its heading and then those of its records; a written sheet of at most 65,535 bytes reads back; other records give other bytes, and other sheets too; a sheet of 1 to 8 variables that was read whole is written to the same bytes
 pub record Sheets-round : Type 0 where
   pub headed : (s : Sheet) (records : List ℕ) → sheet-bytes s records ≡ heading-bytes (s .field) (s .modulus) (s .variables) ++ records
   pub reads-back : (s : Sheet) (bytes : List ℕ) → Heading-fits s → write-sheet s ≡ Ok bytes → length bytes ≤ 65535 → read-sheet bytes ≡ Ok s
   pub one-list : (n : ℕ) (rs qs : List Entry) (bytes : List ℕ) → write-records n rs ≡ Ok bytes → write-records n qs ≡ Ok bytes → rs ≡ qs
   pub one-sheet : (s t : Sheet) (bytes : List ℕ) → Heading-fits s → Heading-fits t → write-sheet s ≡ Ok bytes → write-sheet t ≡ Ok bytes → length bytes ≤ 65535 → s ≡ t
+  pub read-writes-back : (s : Sheet) (bytes : List ℕ) → Bytes bytes → read-sheet bytes ≡ Ok s → 1 ≤ s .variables → s .variables ≤ 8 → write-sheet s ≡ Ok bytes

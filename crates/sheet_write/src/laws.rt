@@ -15,7 +15,7 @@ pub fn records_round() -> u8
     0
 }
 
-// A written sheet reads back by the reader's calls, and no other sheet gives its bytes.
+// A written sheet reads back by the reader's calls, and no other sheet gives its bytes; a sheet of 1 to 8 variables that was read is written to the same bytes.
 pub fn sheets_round() -> u8
     ensures { λ _. ⌜ Sheets-round ⌝ }
 {

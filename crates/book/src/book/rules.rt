@@ -38,7 +38,7 @@ impl<F: Field> Book<F> {
         let codes = kept_row(&self.field, row, inverse);
         self.contents.rules.rows[place - 1] = codes;
         self.contents.rules.given[place - 1] = true;
-        self.contents.phase = Phase::Closed;
+        self.contents.phase = Phase::Closed; // no verdict outlives a replaced rule
         Ok(())
     }
 
@@ -50,7 +50,7 @@ impl<F: Field> Book<F> {
     {
         let place = self.judge_strike(&e)?;
         self.contents.rules.given[place - 1] = false;
-        self.contents.phase = Phase::Closed;
+        self.contents.phase = Phase::Closed; // nor a struck one
         Ok(())
     }
 }
