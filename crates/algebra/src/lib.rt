@@ -1,5 +1,7 @@
 // The mathematics of border bases over any commutative ring on codes: definitions and theorems.
 // The types are those that the code above computes with. Each function states a theorem; there is nothing to run.
+#![tactic(auto)]
+
 ghost use Rattle.algebra.specs.Theorems.{WalksAccountAlways, BorderBasisTheorem, NormalFormTheorem};
 ghost use Rattle.algebra.specs.Worked.{Worked};
 

@@ -1,4 +1,6 @@
 // The checker: a book of terms and rules over any lawful field.
+#![tactic(auto)]
+
 mod basis;
 mod book;
 mod border;

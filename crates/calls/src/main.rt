@@ -1,4 +1,6 @@
 // Builds lists of calls over a supplied field and over another's field, runs each on a new book, and prints what every call answered and wrote.
+#![tactic(auto)]
+
 mod show;
 mod worked;
 

@@ -1,4 +1,6 @@
 // Finite fields on small codes: the interface with its laws, and the two kinds that are supplied.
+#![tactic(auto)]
+
 ghost use Rattle.field.specs.Derived.{Derivable};
 ghost use Rattle.field.specs.Worked.{Worked};
 

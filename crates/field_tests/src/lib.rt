@@ -1,4 +1,6 @@
 // Every value of every supplied field, and of the field of order 9, beside values that are worked out here in another way.
+#![tactic(auto)]
+
 #[cfg(test)]
 mod tests {
     use field::{Binary, Field, Prime, Refusal};

@@ -1,4 +1,6 @@
 // Reads lines such as `prime 5` or `binary 3`, and writes the tables of each field.
+#![tactic(auto)]
+
 use std::io;
 use std::io::{Read, Write};
 

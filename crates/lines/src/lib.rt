@@ -1,4 +1,6 @@
 // The lines that a sheet is answered with, and the faults that end them.
+#![tactic(auto)]
+
 mod fault;
 mod line;
 mod text;

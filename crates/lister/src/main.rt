@@ -1,4 +1,6 @@
 // Prints the sheet of the standard input in words, a line for its heading and one for each record.
+#![tactic(auto)]
+
 mod lines;
 mod listing;
 

@@ -1,4 +1,6 @@
 // A field that the library does not supply, made by a user with nothing but the trait.
+#![tactic(auto)]
+
 ghost use Rattle.std.specs.Prelude.{◌≡◌, ◌*◌, ◌<◌};
 ghost use Rattle.nine.specs.Nine.{nine_field, nine_code, nine_sum, nine_negative, nine_product};
 ghost use Rattle.field.specs.Tables.{both, all_below, at_one, at_two, at_three, at_all, from_table};

@@ -1,4 +1,6 @@
 // A sheet run on a book, and the lines that it is answered with.
+#![tactic(auto)]
+
 mod calls;
 mod heading;
 mod running;

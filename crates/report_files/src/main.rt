@@ -1,4 +1,6 @@
 // Prints the report of each sheet whose file is named in the arguments, after a line with its name.
+#![tactic(auto)]
+
 use report::report;
 use std::io::Write;
 use std::{env, fs, io};

@@ -1,4 +1,6 @@
 // Runs the sheet of the standard input, and prints what came of it.
+#![tactic(auto)]
+
 use report::report;
 use std::io;
 use std::io::{Read, Write};

@@ -1,4 +1,6 @@
 // Rows of codes: arithmetic in place over any field, the maps of the variables, and the walks that list entries.
+#![tactic(auto)]
+
 mod lead;
 mod maps;
 mod sums;

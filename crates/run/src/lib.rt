@@ -1,4 +1,6 @@
 // Any list of calls, run on a book just made.
+#![tactic(auto)]
+
 mod call;
 mod running;
 mod worked;

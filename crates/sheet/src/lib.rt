@@ -1,4 +1,6 @@
 // The byte format of a sheet: a heading of three numbers, then records.
+#![tactic(auto)]
+
 mod cursor;
 mod fault;
 mod kind;

@@ -1,4 +1,6 @@
 // Examples of the format: sheets that read to their end, damaged ones, and records that are written.
+#![tactic(auto)]
+
 #[cfg(test)]
 mod tests {
     use sheet::{Reader, SheetFault};

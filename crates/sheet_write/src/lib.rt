@@ -1,4 +1,6 @@
 // The writing of a sheet's numbers and records.
+#![tactic(auto)]
+
 mod again;
 mod body;
 mod heading;

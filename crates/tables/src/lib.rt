@@ -1,4 +1,6 @@
 // The arithmetic of a field on paper: tables of sums and products, negatives and inverses, in aligned columns.
+#![tactic(auto)]
+
 mod pages;
 mod request;
 mod text;

@@ -1,4 +1,6 @@
 // Terms as values of eight bytes: comparison, search, and the variables of a term.
+#![tactic(auto)]
+
 mod search;
 mod terms;
 
