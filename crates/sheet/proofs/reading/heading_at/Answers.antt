@@ -5,8 +5,8 @@ use Rattle.sheet.proofs.reading.heading_at.Goals as goal
 
 pub returns : goal.returns
 returns c =
-    let told = c.in-ok-number-at.ensures in
-    let from = c.bytes-from.ensures in
+    let told = c.in_ok-number_at.ensures in
+    let from = c.bytes_from.ensures in
     record {
       value = ap in_record (told.value ∙ ap (λ bs. number_at 65535 bs c.args.at 0) from);
       inside = omega (arith, told.back.some, told.back.inside, ap length from, length-drop c.args.at c.args.bytes.now);

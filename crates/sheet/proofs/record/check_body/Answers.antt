@@ -6,37 +6,37 @@ use Rattle.sheet.specs.Body.{check_numbers, whole_after, limit_at, number_at}
 use Rattle.sheet.proofs.Bodies.{full_here, number_here}
 use Rattle.sheet.proofs.record.check_body.Goals as goal
 
-pub returns-then-is-full : goal.returns-then-is-full
-returns-then-is-full c =
+pub returns-then-is_full : goal.returns-then-is_full
+returns-then-is_full c =
     let some : 0 < length c.loop-rest.rest.now = omega (arith, eqb-false (length c.loop-rest.rest.now) 0 (sym c.loop-rest-test.ensures)) in
-    full_here _ _ _ _ _ _ _ _ _ some c.if-is-full.ensures ∙ c.loop-rest.invariant.0
+    full_here _ _ _ _ _ _ _ _ _ some c.if-is_full.ensures ∙ c.loop-rest.invariant.0
 
-pub returns-in-err-value : goal.returns-in-err-value
-returns-in-err-value c =
+pub returns-in_err-value : goal.returns-in_err-value
+returns-in_err-value c =
     let rest = c.loop-rest.rest.now in
     let some : 0 < length rest = omega (arith, eqb-false (length rest) 0 (sym c.loop-rest-test.ensures)) in
     let left : length c.args.body.now - c.loop-rest.j ≡ suc (length c.args.body.now - (c.loop-rest.j + 1)) = omega (arith, c.loop-rest.invariant.1) in
-    let p = err_from_is_err_and c.from-residual.result c.from-residual.ensures.1 in
+    let p = err_from_is_err_and c.from_residual.result c.from_residual.ensures.1 in
     rw (p.1, p.2)
-    (sym (number_here _ _ _ _ _ _ _ _ _ rest (Err c.in-err-value.field-0.0) left some c.if-is-full.ensures
-    (c.in-err-value.ensures.value ∙ ap (λ m. number_at m rest c.loop-rest.at c.args.count) c.limit.ensures))
+    (sym (number_here _ _ _ _ _ _ _ _ _ rest (Err c.in_err-value.field-0.0) left some c.if-is_full.ensures
+    (c.in_err-value.ensures.value ∙ ap (λ m. number_at m rest c.loop-rest.at c.args.count) c.limit.ensures))
     ∙ c.loop-rest.invariant.0)
 
 pub loop-rest-preserved : goal.loop-rest-preserved
 loop-rest-preserved c =
     let rest = c.loop-rest.rest.now in
-    let size = c.in-ok-value.size in
+    let size = c.in_ok-value.size in
     let j = c.loop-rest.j in
     let at = c.loop-rest.at in
     let body = c.args.body.now in
     let some : 0 < length rest = omega (arith, eqb-false (length rest) 0 (sym c.loop-rest-test.ensures)) in
     let left : length body - j ≡ suc (length body - (j + 1)) = omega (arith, c.loop-rest.invariant.1) in
-    let taken = c.in-ok-value.ensures.back in
-    let here = number_here c.args.kind c.args.n c.args.start c.args.count (length body - j) (length body - (j + 1)) j c.loop-rest.whole at rest (Ok (c.in-ok-value.value, size)) left some c.if-is-full.ensures
-    (c.in-ok-value.ensures.value ∙ ap (λ m. number_at m rest at c.args.count) c.limit.ensures) in
+    let taken = c.in_ok-value.ensures.back in
+    let here = number_here c.args.kind c.args.n c.args.start c.args.count (length body - j) (length body - (j + 1)) j c.loop-rest.whole at rest (Ok (c.in_ok-value.value, size)) left some c.if-is_full.ensures
+    (c.in_ok-value.ensures.value ∙ ap (λ m. number_at m rest at c.args.count) c.limit.ensures) in
     let cut = take_rest rest size in
     let shorter : length (take (length rest - size) (drop size rest)) ≡ length rest - size = ap length cut ∙ length-drop size rest in (
-      (λ i. check_numbers c.args.kind c.args.n c.args.start c.args.count (length body - (j + 1)) (j + 1) (c.whole-after-whole.ensures i) (at + size) (cut i))
+      (λ i. check_numbers c.args.kind c.args.n c.args.start c.args.count (length body - (j + 1)) (j + 1) (c.whole_after-whole.ensures i) (at + size) (cut i))
           ∙ sym here ∙ c.loop-rest.invariant.0,
       omega (arith, c.loop-rest.invariant.1, taken.some, taken.inside, shorter),
       omega (arith, c.loop-rest.invariant.2, taken.inside, shorter),
