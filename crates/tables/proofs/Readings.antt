@@ -1,13 +1,9 @@
 -- How the digits of a number are read one by one, and the words of a request compared. Assumes nothing.
-use Rattle.std.proofs.Common.{◌≡◌, ℕ, ◌+◌, ◌-◌, ◌*◌, ◌<◌, ◌≤◌, min, Bool, false, ◌⊎◌, List, [], ◌∷◌, length, get_or, drop, Some, None, Decides, Option, sym, refl, ◌∙◌, ⊎_elim, arith, rules}
-use Rattle.std.specs.Cmp.Lexicographic.{Matches}
-use Rattle.std.specs.Str.{bytes_eq}
-use Rattle.std.proofs.lemmas.Slice.Eq.{slice_eq-Decides, bytes_eq-Decides}
+use Rattle.std.proofs.Common.{◌≡◌, ℕ, ◌+◌, ◌-◌, ◌*◌, ◌<◌, ◌≤◌, min, Bool, false, ◌⊎◌, List, [], ◌∷◌, length, get_or, drop, Some, None, Option, sym, refl, ◌∙◌, ⊎_elim, arith}
 use Rattle.std.proofs.lemmas.List.{at_drop_more}
 use Rattle.std.proofs.lemmas.Bool.{le-leb, lt-leb, and_from, and_left, and_right, cond-true, cond-false}
 use Rattle.tables.specs.Request.{is_digit, digits_on, decimal_number, of_kind, with_number, first_word, after_word, request}
 use Rattle.tables.specs.declared.request.Request.TheVariants.{NoPair}
-use Rattle.std.proofs.lemmas.Bool.Decides.{Decides-eqb}
 
 -- some bytes are read as digits, and none are no number
 pub some_digits : (xs : List ℕ) → 0 < length xs → decimal_number xs ≡ digits_on 0 xs
@@ -27,10 +23,6 @@ module _ (n : ℕ) (xs : List ℕ) (i : ℕ) (inside : i < length xs) where
       let out : is_digit (get_or xs i 0) ≡ false =
       ⊎_elim (λ low. and_left _ _ (lt-leb 48 (get_or xs i 0) low)) (λ high. and_right _ _ (lt-leb (get_or xs i 0) 57 high)) other in
       sym (at_drop_more (digits_on n) xs i 0 inside ∙ cond-false (is_digit (get_or xs i 0)) _ _ out) ∙ so_far ∙ sym (some_digits xs (omega arith))
-
--- what `==` answers of two slices of bytes
-pub same_answer : (xs ys : List ℕ) (r b : Bool) → Matches (λ (x y : ℕ) (t : Bool). Decides t (x ≡ y)) xs ys r → r ≡ b → bytes_eq xs ys ≡ b
-same_answer xs ys r b h e = let d = slice_eq-Decides Decides-eqb xs ys r h in search (rules, bytes_eq-Decides)
 
 -- the word and the digits of a line say what it asks for
 pub asked : (line word digits : List ℕ) → word ≡ first_word line → digits ≡ after_word line → with_number word (decimal_number digits) ≡ request line

@@ -44,9 +44,9 @@ fn space(line: &[u8]) -> usize
 fn of_kind(word: &[u8], n: u16) -> Request
     ensures { result ≡ kind_of word.now n }
 {
-    if word == b"prime" {
+    if word == b"prime".as_slice() {
         Request::PrimeField(n)
-    } else if word == b"binary" {
+    } else if word == b"binary".as_slice() {
         Request::BinaryField(n)
     } else {
         Request::UnknownKind

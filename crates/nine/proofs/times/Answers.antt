@@ -3,8 +3,8 @@ use native.Mathlib.Nat.{mul-le-mul}
 use native.Mathlib.Omega.{arith}
 use Rattle.nine.proofs.times.Goals as goal
 
-pub overflow-mul-result : goal.overflow-mul-result
-overflow-mul-result c = omega (arith, mul-le-mul {n₁ = c.args.a} {m₁ = c.args.b} {n₂ = 2} {m₂ = 2} (omega arith) (omega arith))
+pub overflow_mul-result : goal.overflow_mul-result
+overflow_mul-result c = omega (arith, mul-le-mul {n₁ = c.args.a} {m₁ = c.args.b} {n₂ = 2} {m₂ = 2} (omega arith) (omega arith))
 
 pub returns : goal.returns
 returns c = record { value = refl; bound = omega (arith, mul-le-mul {n₁ = c.args.a} {m₁ = c.args.b} {n₂ = 2} {m₂ = 2} (omega arith) (omega arith)) }

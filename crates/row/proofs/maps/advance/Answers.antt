@@ -2,10 +2,10 @@ use Rattle.field.specs.Arithmetic.{ring}
 use Rattle.row.proofs.Leading.{still_long, mapped_back}
 use Rattle.row.proofs.maps.advance.Goals as goal
 
-pub slice-bounds-copy-from-slice-end : goal.slice-bounds-copy-from-slice-end
-slice-bounds-copy-from-slice-end g c = still_long _ _ c.map_onto.new.out _ c.if-size-le32.true c.map_onto.auto.out
+pub slice_bounds-copy_from_slice-end : goal.slice_bounds-copy_from_slice-end
+slice_bounds-copy_from_slice-end g c = still_long _ _ c.map_onto.new.out _ c.if-size-le32.true c.map_onto.auto.out
 
 pub returns-then-size-le32 : goal.returns-then-size-le32
 returns-then-size-le32 g c =
-    mapped_back 32 (ring (g.F.Field.meaning c.args.f.now)) c.args.rows.now c.args.leads.now c.args.row.now c.map_onto.new.out _ c.copy-from-slice.new.self
-    c.if-size-le32.true c.if-size-le32.true c.map_onto.auto.out c.map_onto.ensures c.copy-from-slice.ensures.after
+    mapped_back 32 (ring (g.F.Field.meaning c.args.f.now)) c.args.rows.now c.args.leads.now c.args.row.now c.map_onto.new.out _ c.copy_from_slice.new.self
+    c.if-size-le32.true c.if-size-le32.true c.map_onto.auto.out c.map_onto.ensures c.copy_from_slice.ensures.after

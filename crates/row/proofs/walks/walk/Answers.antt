@@ -14,12 +14,12 @@ loop-first-smaller g c = quotient_less c.loop-first.rest c.in-Some.first.0 c.in-
 pub loop-first-preserved : goal.loop-first-preserved
 loop-first-preserved g c =
     left_less (ring (g.F.Field.meaning c.args.f.now)) c.args.rows.now c.args.leads.now c.args.row.now c.args.t (listing c.args.slots.now c.args.count)
-    c.loop-first.row c.loop-first.rest (listing c.loop-first.slots c.loop-first.count) c.in-Some.first.0 c.in-Some.first.1 c.advance.new.row (listing c.list-step-count.new.slots c.list-step-count.result)
-    c.loop-first.invariant c.in-Some.ensures.value c.list-step-count.ensures c.advance.ensures
+    c.loop-first.row c.loop-first.rest (listing c.loop-first.slots c.loop-first.count) c.in-Some.first.0 c.in-Some.first.1 c.advance.new.row (listing c.list_step-count.new.slots c.list_step-count.result)
+    c.loop-first.invariant c.in-Some.ensures.value c.list_step-count.ensures c.advance.ensures
 
 pub returns : goal.returns
 returns g c =
     let end =
     left_none (ring (g.F.Field.meaning c.args.f.now)) c.args.rows.now c.args.leads.now c.args.row.now c.args.t (listing c.args.slots.now c.args.count)
-    c.loop-first.row c.loop-first.rest (listing c.loop-first.slots c.loop-first.count) c.loop-first.invariant c.in-default.ensures.value in
+    c.loop-first.row c.loop-first.rest (listing c.loop-first.slots c.loop-first.count) c.loop-first.invariant c.in_default.ensures.value in
     record { last = end.0; listed = end.1 }

@@ -5,5 +5,5 @@ use Rattle.sheet_write.proofs.again.read_record.Goals as goal
 pub returns : goal.returns
 returns c =
     let bytes = c.args.bytes.now in
-    let fit : (i : ℕ) → get_or bytes i 0 < 256 = λ i. omega (arith, c.type-inv.bytes i) in
-    record { value = c.read-front.ensures.value; back = front_writes_back c.args.n bytes c.read-front.result fit c.read-front.ensures.value }
+    let fit : (i : ℕ) → get_or bytes i 0 < 256 = λ i. omega (arith, c.type_inv.bytes i) in
+    record { value = c.read_front.ensures.value; back = front_writes_back c.args.n bytes c.read_front.result fit c.read_front.ensures.value }

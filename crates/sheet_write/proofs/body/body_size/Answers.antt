@@ -15,14 +15,14 @@ pub returns-then-size-gt65520 : goal.returns-then-size-gt65520
 returns-then-size-gt65520 c =
     let xs = c.args.numbers.now in
     let j = c.loop-j.j in
-    size_past c.args.kind c.args.n xs (omega (arith, more_length xs j c.loop-j-test.true, flat_front xs (j + 1), c.loop-j.invariant.0, c.number-size-size.ensures, c.if-size-gt65520.true))
+    size_past c.args.kind c.args.n xs (omega (arith, more_length xs j c.loop-j-test.true, flat_front xs (j + 1), c.loop-j.invariant.0, c.number_size-size.ensures, c.if-size-gt65520.true))
 
 pub loop-j-preserved : goal.loop-j-preserved
 loop-j-preserved c =
     let xs = c.args.numbers.now in
     let j = c.loop-j.j in
     let low : get_or xs j 0 ≤ limit_at c.args.kind c.args.n j = omega (arith, c.limit.ensures, c.if-numbers-j.false) in (
-      omega (arith, more_length xs j c.loop-j-test.true, c.loop-j.invariant.0, c.number-size-size.ensures),
+      omega (arith, more_length xs j c.loop-j-test.true, c.loop-j.invariant.0, c.number_size-size.ensures),
       c.if-size-gt65520.false,
       sym (allowed_more c.args.kind c.args.n xs j c.loop-j-test.true low) ∙ c.loop-j.invariant.2,
     )

@@ -8,8 +8,8 @@ use Rattle.sheet_write.proofs.body.put_numbers.Goals as goal
 pub loop-j-init : goal.loop-j-init
 loop-j-init c = (pasted_none c.args.at c.args.out.now (omega (arith, c.requires)), omega arith)
 
-pub put-number-to-requires : goal.put-number-to-requires
-put-number-to-requires c =
+pub put_number-to-requires : goal.put_number-to-requires
+put_number-to-requires c =
     let xs = c.args.numbers.now in
     let j = c.loop-j.j in
     omega (arith, c.requires, more_length xs j c.loop-j-test.true, flat_front xs (j + 1), c.loop-j.invariant.1, c.loop-j.auto.out)
@@ -23,11 +23,11 @@ loop-j-preserved c =
     let so_far = flat (take j xs) in
     let bytes = number_bytes (get_or xs j 0) in
     let more = flat_more xs j c.loop-j-test.true in (
-      c.put-number-to.ensures.after
+      c.put_number-to.ensures.after
           ∙ (λ i. pasted (c.loop-j.invariant.1 i) bytes (c.loop-j.invariant.0 i))
           ∙ pasted_more so_far bytes out at (omega (arith, c.requires))
           ∙ ap (λ bs. pasted at bs out) (sym more),
-      omega (arith, c.put-number-to.ensures.value, c.loop-j.invariant.1, more_length xs j c.loop-j-test.true),
+      omega (arith, c.put_number-to.ensures.value, c.loop-j.invariant.1, more_length xs j c.loop-j-test.true),
     )
 
 pub returns : goal.returns

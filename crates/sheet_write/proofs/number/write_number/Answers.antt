@@ -10,10 +10,10 @@ pub returns : goal.returns
 returns c =
     let out = c.args.out.now in
     let bytes = number_bytes c.args.value in
-    let room : length bytes ≤ length out = omega (arith, c.number-size.ensures, c.if-number-size-out.false) in
+    let room : length bytes ≤ length out = omega (arith, c.number_size.ensures, c.if-number_size-out.false) in
     let fits : with_room out bytes ≡ Ok bytes = cond-true _ _ _ (le-leb (length bytes) (length out) room) in
-    let size = c.put-number.ensures.value ∙ zero-add (length bytes) in
-    let whole = c.put-number.ensures.after ∙ pasted_front bytes out in
+    let size = c.put_number.ensures.value ∙ zero-add (length bytes) in
+    let whole = c.put_number.ensures.after ∙ pasted_front bytes out in
     record {
       value = ap Ok size ∙ sym (ap answer fits);
       after = whole ∙ sym (ap (λ r. held r out) fits);

@@ -10,14 +10,14 @@ returns c =
     let out = c.args.out.now in
     let k = c.args.kind in
     let xs = c.args.numbers.now in
-    let size = c.in-ok-size.size in
+    let size = c.in_ok-size.size in
     let kinds = number_bytes k in
     let sizes = number_bytes size in
-    let told = c.in-ok-size.ensures in
-    let both = put_three out c.put-number-from.new.out c.put-number-body.new.out c.put-numbers.new.out kinds sizes (flat xs)
-    c.put-number-from.result c.put-number-body.result c.put-numbers.result
-    c.put-number-from.ensures.after c.put-number-from.ensures.value c.put-number-body.ensures.after c.put-number-body.ensures.value c.put-numbers.ensures.after c.put-numbers.ensures.value in
+    let told = c.in_ok-size.ensures in
+    let both = put_three out c.put_number-from.new.out c.put_number-body.new.out c.put_numbers.new.out kinds sizes (flat xs)
+    c.put_number-from.result c.put_number-body.result c.put_numbers.result
+    c.put_number-from.ensures.after c.put_number-from.ensures.value c.put_number-body.ensures.after c.put_number-body.ensures.value c.put_numbers.ensures.after c.put_numbers.ensures.value in
     let room : length (record_bytes k size xs) ≤ length out =
-    omega (arith, length-append kinds (sizes ++ flat xs), length-append sizes (flat xs), told.size.is, c.number-size.ensures, c.number-size-2.ensures, c.if-total-out.false) in
+    omega (arith, length-append kinds (sizes ++ flat xs), length-append sizes (flat xs), told.size.is, c.number_size.ensures, c.number_size-2.ensures, c.if-total-out.false) in
     let fits = written_fits c.args.n k xs out size told.value room in
     record { value = ap Ok both.1 ∙ sym (ap answer fits); after = both.0 ∙ sym (ap (λ r. held r out) fits); reads = λ start count. reads_where c.args.n k xs (record_bytes k size xs) (drop (length (record_bytes k size xs)) out) _ _ start count (written_is c.args.n k xs size told.value) both.0 both.1 }

@@ -5,11 +5,11 @@ use Rattle.tables.specs.Request.{digits_on}
 use Rattle.tables.proofs.Readings.{some_digits, digit_read, no_digit}
 use Rattle.tables.proofs.request.number.Goals as goal
 
-pub returns-in-default : goal.returns-in-default
-returns-in-default c = no_digit c.loop-b.n c.args.digits.now c.loop-b.b-index c.loop-b-test.true (inl (omega arith)) c.loop-b.invariant.1
+pub returns-in_default : goal.returns-in_default
+returns-in_default c = no_digit c.loop-b.n c.args.digits.now c.loop-b.b-index c.loop-b-test.true (inl (omega arith)) c.loop-b.invariant.1
 
-pub returns-in-default·2 : goal.returns-in-default·2
-returns-in-default·2 c = no_digit c.loop-b.n c.args.digits.now c.loop-b.b-index c.loop-b-test.true (inr (omega arith)) c.loop-b.invariant.1
+pub returns-in_default-2 : goal.returns-in_default-2
+returns-in_default-2 c = no_digit c.loop-b.n c.args.digits.now c.loop-b.b-index c.loop-b-test.true (inr (omega arith)) c.loop-b.invariant.1
 
 pub loop-b-preserved : goal.loop-b-preserved
 loop-b-preserved c =
@@ -24,4 +24,4 @@ pub returns : goal.returns
 returns c =
     let xs = c.args.digits.now in
     sym (at_drop_all (digits_on c.loop-b.n) xs c.loop-b.b-index c.loop-b-test.false) ∙ c.loop-b.invariant.1
-    ∙ sym (some_digits xs (omega (arith, eqb-false (length xs) 0 (sym c.if-is-empty.ensures))))
+    ∙ sym (some_digits xs (omega (arith, eqb-false (length xs) 0 (sym c.if-is_empty.ensures))))

@@ -17,18 +17,18 @@ line_more n rest end more out now all first left written before =
 pub loop-rest-preserved-then-end-rest : goal.loop-rest-preserved-then-end-rest
 loop-rest-preserved-then-end-rest c =
     let rest = c.loop-rest.rest.now in
-    let end = c.line-end-end.result in
+    let end = c.line_end-end.result in
     let left = take_rest rest (end + 1) in (
-      line_more c.loop-rest.number rest end _ _ _ _ (c.line-end-end.ensures.first (omega arith)) left c.in-ok-push-answer.ensures c.loop-rest.invariant.0,
+      line_more c.loop-rest.number rest end _ _ _ _ (c.line_end-end.ensures.first (omega arith)) left c.in_ok-push_answer.ensures c.loop-rest.invariant.0,
       omega (arith, c.loop-rest.invariant.1, ap length left, length-drop (end + 1) rest),
     )
 
 pub loop-rest-preserved : goal.loop-rest-preserved
 loop-rest-preserved c =
     let rest = c.loop-rest.rest.now in
-    let end = c.line-end-end.result in
-    let some = eqb-false (length rest) 0 (sym c.is-empty.ensures ∙ c.loop-rest-test.true) in (
-      line_more c.loop-rest.number rest end [] _ _ _ (c.line-end-end.ensures.first (omega arith)) (sym (drop_all (end + 1) rest (omega arith))) c.in-ok-push-answer.ensures c.loop-rest.invariant.0,
+    let end = c.line_end-end.result in
+    let some = eqb-false (length rest) 0 (sym c.is_empty.ensures ∙ c.loop-rest-test.true) in (
+      line_more c.loop-rest.number rest end [] _ _ _ (c.line_end-end.ensures.first (omega arith)) (sym (drop_all (end + 1) rest (omega arith))) c.in_ok-push_answer.ensures c.loop-rest.invariant.0,
       omega (arith, c.loop-rest.invariant.1),
     )
 
@@ -36,5 +36,5 @@ pub returns : goal.returns
 returns c =
     let rest = c.loop-rest.rest.now in
     let out = vec_items c.loop-rest.out in
-    let none = nil_from_length rest (eqb-true (length rest) 0 (sym c.is-empty.ensures ∙ c.loop-rest-test.false)) in
+    let none = nil_from_length rest (eqb-true (length rest) 0 (sym c.is_empty.ensures ∙ c.loop-rest-test.false)) in
     sym (append-nil out) ∙ ap (λ xs. out ++ answers (c.loop-rest.number + 1) (lines xs)) (sym none) ∙ c.loop-rest.invariant.0

@@ -13,12 +13,12 @@ granted_page kind same granted = ap (λ n. page (kind n)) same ∙ sym (cond-tru
 
 pub returns-in-Ok : goal.returns-in-Ok
 returns-in-Ok c =
-    made_same c.push-page.result _ _
+    made_same c.push_page.result _ _
     (granted_page modulo c.in-Ok.ensures.made c.in-Ok.ensures.granted ∙ ap (answered c.args.number) (sym c.in-PrimeField.is))
-    c.push-page.ensures
+    c.push_page.ensures
 
 pub returns-in-Ok-new : goal.returns-in-Ok-new
 returns-in-Ok-new c =
-    made_same c.push-page-in-Ok-new.result _ _
+    made_same c.push_page-in-Ok-new.result _ _
     (granted_page binary c.in-Ok-new.ensures.made c.in-Ok-new.ensures.granted ∙ ap (answered c.args.number) (sym c.in-BinaryField.is))
-    c.push-page-in-Ok-new.ensures
+    c.push_page-in-Ok-new.ensures

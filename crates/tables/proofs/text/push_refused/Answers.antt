@@ -13,5 +13,5 @@ pub returns : goal.returns
 returns c =
     let was = vec_items c.args.out.now in
     let number = c.number-number.ensures ∙ only c.args.refusal in
-    made_same c.extend-from-slice.result was _ (c.as-bytes.ensures.value ∙ rw number at c.in-ok-text.ensures.ok)
-    (made_slice c.extend-from-slice.result was _ c.as-bytes.result.now c.extend-from-slice.ensures.items)
+    made_same c.extend_from_slice.result was _ (c.as_bytes.ensures.value ∙ rw number at c.in_ok-text.ensures.ok)
+    (made_slice c.extend_from_slice.result was _ c.as_bytes.result.now c.extend_from_slice.ensures.items)

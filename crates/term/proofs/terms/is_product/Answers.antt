@@ -9,7 +9,7 @@ use Rattle.term.proofs.terms.is_product.Goals.{Joined-k-i, then-k-i, else-k-i}
 raised_is : (c : Joined-k-i) → c.if-k-i.raised ≡ get_or (times c.args.i c.args.s.now) c.loop-k.k 0
 raised_is c =
     exponent_is c.args.i c.args.s.now c.loop-k.k c.if-k-i.raised (omega arith)
-    (elim c.if-k-i.branch [ then-k-i w ↦ inl (w.if-k-i.true, w.raised_is) | else-k-i w ↦ inr (w.if-k-i.false, w.raised_is) ])
+    (elim c.if-k-i.branch [ then-k-i w ↦ inl (w.if-k-i.true, w.raised-is) | else-k-i w ↦ inr (w.if-k-i.false, w.raised-is) ])
 
 pub returns-then-t-k : goal.returns-then-t-k
 returns-then-t-k c =
