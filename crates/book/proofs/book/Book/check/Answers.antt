@@ -12,54 +12,54 @@ use Rattle.book.proofs.Keeping.{facts}
 use Rattle.book.proofs.Answering.{check_call, clash_within, check_kept, check_after, check_answer, check_row, check_slots, check_meaning, cleared_row}
 use Rattle.book.proofs.book.Book.check.Goals as goal
 
-pub first-clash-requires : goal.first-clash-requires
-first-clash-requires g c = (check_call c.args.self.now.contents c.args.self.now.kept c.args.row.now c.args.slots.now (none_from _ _ _ (sym c.judge_check.ensures ∙ c.in-ok-judge-check.was))).is_ready
+pub first_clash-requires : goal.first_clash-requires
+first_clash-requires g c = (check_call c.args.self.now.contents c.args.self.now.kept c.args.row.now c.args.slots.now (none_from _ _ _ (sym c.judge_check.ensures ∙ c.in_ok-judge_check.was))).is_ready
 
-pub write-clash-entries-requires : goal.write-clash-entries-requires
-write-clash-entries-requires g c =
+pub write_clash-entries-requires : goal.write_clash-entries-requires
+write_clash-entries-requires g c =
     let k = c.args.self.now.contents in
-    let a = check_call k c.args.self.now.kept c.args.row.now c.args.slots.now (none_from _ _ _ (sym c.judge_check.ensures ∙ c.in-ok-judge-check.was)) in
+    let a = check_call k c.args.self.now.kept c.args.row.now c.args.slots.now (none_from _ _ _ (sym c.judge_check.ensures ∙ c.in_ok-judge_check.was)) in
     let w = clash_within k c.args.self.now.kept (ring (g.F.Field.meaning c.args.self.now.field)) c.in-Some.clash c.in-Some.ensures in
     record { ready = a.is_ready; clash = (w.0, (w.1, w.2)); lengths = (a.long, a.room) }
 
-pub invariant-of-self : goal.invariant-of-self
-invariant-of-self g c = (tt, (check_kept (g.F.Field.meaning c.args.self.now.field) (g.met.F.Field.lawful c.args.self.now.field).commutative_ring c.args.self.now.contents c.args.self.now.kept c.args.row.now c.args.slots.now (none_from _ _ _ (sym c.judge_check.ensures ∙ c.in-ok-judge-check.was)) None c.in-None.ensures, tt))
+pub invariant_of-self : goal.invariant_of-self
+invariant_of-self g c = record { kept = check_kept (g.F.Field.meaning c.args.self.now.field) (g.met.F.Field.lawful c.args.self.now.field).commutative_ring c.args.self.now.contents c.args.self.now.kept c.args.row.now c.args.slots.now (none_from _ _ _ (sym c.judge_check.ensures ∙ c.in_ok-judge_check.was)) None c.in-None.ensures }
 
-pub invariant-of-self-in-Some : goal.invariant-of-self-in-Some
-invariant-of-self-in-Some g c = (tt, (check_kept (g.F.Field.meaning c.args.self.now.field) (g.met.F.Field.lawful c.args.self.now.field).commutative_ring c.args.self.now.contents c.args.self.now.kept c.args.row.now c.args.slots.now (none_from _ _ _ (sym c.judge_check.ensures ∙ c.in-ok-judge-check.was)) (Some c.in-Some.clash) c.in-Some.ensures, tt))
+pub invariant_of-self-in-Some : goal.invariant_of-self-in-Some
+invariant_of-self-in-Some g c = record { kept = check_kept (g.F.Field.meaning c.args.self.now.field) (g.met.F.Field.lawful c.args.self.now.field).commutative_ring c.args.self.now.contents c.args.self.now.kept c.args.row.now c.args.slots.now (none_from _ _ _ (sym c.judge_check.ensures ∙ c.in_ok-judge_check.was)) (Some c.in-Some.clash) c.in-Some.ensures }
 
 pub returns-in-None : goal.returns-in-None
 returns-in-None g c =
-    let long = (check_call c.args.self.now.contents c.args.self.now.kept c.args.row.now c.args.slots.now (none_from _ _ _ (sym c.judge_check.ensures ∙ c.in-ok-judge-check.was))).long in
+    let long = (check_call c.args.self.now.contents c.args.self.now.kept c.args.row.now c.args.slots.now (none_from _ _ _ (sym c.judge_check.ensures ∙ c.in_ok-judge_check.was))).long in
     let row = c.clear.ensures ∙ cleared_row c.args.self.now.contents c.args.self.now.kept c.args.row.now long in
     record {
-      answer = check_answer (g.F.Field.meaning c.args.self.now.field) (g.met.F.Field.lawful c.args.self.now.field).commutative_ring c.args.self.now.contents c.args.self.now.kept c.args.row.now c.args.slots.now (none_from _ _ _ (sym c.judge_check.ensures ∙ c.in-ok-judge-check.was)) None c.in-None.ensures Consistent refl;
-      after = check_after (g.F.Field.meaning c.args.self.now.field) (g.met.F.Field.lawful c.args.self.now.field).commutative_ring c.args.self.now.contents c.args.self.now.kept c.args.row.now c.args.slots.now (none_from _ _ _ (sym c.judge_check.ensures ∙ c.in-ok-judge-check.was)) None c.in-None.ensures;
-      row = check_row (g.F.Field.meaning c.args.self.now.field) (g.met.F.Field.lawful c.args.self.now.field).commutative_ring c.args.self.now.contents c.args.self.now.kept c.args.row.now c.args.slots.now (none_from _ _ _ (sym c.judge_check.ensures ∙ c.in-ok-judge-check.was)) None c.in-None.ensures c.clear.new.row row;
-      slots = check_slots (g.F.Field.meaning c.args.self.now.field) (g.met.F.Field.lawful c.args.self.now.field).commutative_ring c.args.self.now.contents c.args.self.now.kept c.args.row.now c.args.slots.now (none_from _ _ _ (sym c.judge_check.ensures ∙ c.in-ok-judge-check.was)) None c.in-None.ensures c.args.slots.now refl;
+      answer = check_answer (g.F.Field.meaning c.args.self.now.field) (g.met.F.Field.lawful c.args.self.now.field).commutative_ring c.args.self.now.contents c.args.self.now.kept c.args.row.now c.args.slots.now (none_from _ _ _ (sym c.judge_check.ensures ∙ c.in_ok-judge_check.was)) None c.in-None.ensures Consistent refl;
+      after = check_after (g.F.Field.meaning c.args.self.now.field) (g.met.F.Field.lawful c.args.self.now.field).commutative_ring c.args.self.now.contents c.args.self.now.kept c.args.row.now c.args.slots.now (none_from _ _ _ (sym c.judge_check.ensures ∙ c.in_ok-judge_check.was)) None c.in-None.ensures;
+      row = check_row (g.F.Field.meaning c.args.self.now.field) (g.met.F.Field.lawful c.args.self.now.field).commutative_ring c.args.self.now.contents c.args.self.now.kept c.args.row.now c.args.slots.now (none_from _ _ _ (sym c.judge_check.ensures ∙ c.in_ok-judge_check.was)) None c.in-None.ensures c.clear.new.row row;
+      slots = check_slots (g.F.Field.meaning c.args.self.now.field) (g.met.F.Field.lawful c.args.self.now.field).commutative_ring c.args.self.now.contents c.args.self.now.kept c.args.row.now c.args.slots.now (none_from _ _ _ (sym c.judge_check.ensures ∙ c.in_ok-judge_check.was)) None c.in-None.ensures c.args.slots.now refl;
       field = refl;
-      meaning = check_meaning (g.F.Field.meaning c.args.self.now.field) (g.met.F.Field.lawful c.args.self.now.field).commutative_ring c.args.self.now.contents c.args.self.now.kept c.args.row.now c.args.slots.now (none_from _ _ _ (sym c.judge_check.ensures ∙ c.in-ok-judge-check.was)) None c.in-None.ensures Consistent c.clear.new.row c.args.slots.now refl row refl;
+      meaning = check_meaning (g.F.Field.meaning c.args.self.now.field) (g.met.F.Field.lawful c.args.self.now.field).commutative_ring c.args.self.now.contents c.args.self.now.kept c.args.row.now c.args.slots.now (none_from _ _ _ (sym c.judge_check.ensures ∙ c.in_ok-judge_check.was)) None c.in-None.ensures Consistent c.clear.new.row c.args.slots.now refl row refl;
     }
 
 pub returns-in-Some : goal.returns-in-Some
 returns-in-Some g c =
-    let w = c.write-clash-entries.ensures in
+    let w = c.write_clash-entries.ensures in
     let x = c.in-Some.clash in
-    let v = Clashes (x.term + 1) (x.a + 1) (x.b + 1) c.write-clash-entries.result in
+    let v = Clashes (x.term + 1) (x.a + 1) (x.b + 1) c.write_clash-entries.result in
     let said = ap (λ (n : ℕ). Clashes (x.term + 1) (x.a + 1) (x.b + 1) n) w.count in
     record {
-      answer = check_answer (g.F.Field.meaning c.args.self.now.field) (g.met.F.Field.lawful c.args.self.now.field).commutative_ring c.args.self.now.contents c.args.self.now.kept c.args.row.now c.args.slots.now (none_from _ _ _ (sym c.judge_check.ensures ∙ c.in-ok-judge-check.was)) (Some c.in-Some.clash) c.in-Some.ensures v said;
-      after = check_after (g.F.Field.meaning c.args.self.now.field) (g.met.F.Field.lawful c.args.self.now.field).commutative_ring c.args.self.now.contents c.args.self.now.kept c.args.row.now c.args.slots.now (none_from _ _ _ (sym c.judge_check.ensures ∙ c.in-ok-judge-check.was)) (Some c.in-Some.clash) c.in-Some.ensures;
-      row = check_row (g.F.Field.meaning c.args.self.now.field) (g.met.F.Field.lawful c.args.self.now.field).commutative_ring c.args.self.now.contents c.args.self.now.kept c.args.row.now c.args.slots.now (none_from _ _ _ (sym c.judge_check.ensures ∙ c.in-ok-judge-check.was)) (Some c.in-Some.clash) c.in-Some.ensures c.write-clash-entries.new.row w.row;
-      slots = check_slots (g.F.Field.meaning c.args.self.now.field) (g.met.F.Field.lawful c.args.self.now.field).commutative_ring c.args.self.now.contents c.args.self.now.kept c.args.row.now c.args.slots.now (none_from _ _ _ (sym c.judge_check.ensures ∙ c.in-ok-judge-check.was)) (Some c.in-Some.clash) c.in-Some.ensures c.write-clash-entries.new.slots w.slots;
+      answer = check_answer (g.F.Field.meaning c.args.self.now.field) (g.met.F.Field.lawful c.args.self.now.field).commutative_ring c.args.self.now.contents c.args.self.now.kept c.args.row.now c.args.slots.now (none_from _ _ _ (sym c.judge_check.ensures ∙ c.in_ok-judge_check.was)) (Some c.in-Some.clash) c.in-Some.ensures v said;
+      after = check_after (g.F.Field.meaning c.args.self.now.field) (g.met.F.Field.lawful c.args.self.now.field).commutative_ring c.args.self.now.contents c.args.self.now.kept c.args.row.now c.args.slots.now (none_from _ _ _ (sym c.judge_check.ensures ∙ c.in_ok-judge_check.was)) (Some c.in-Some.clash) c.in-Some.ensures;
+      row = check_row (g.F.Field.meaning c.args.self.now.field) (g.met.F.Field.lawful c.args.self.now.field).commutative_ring c.args.self.now.contents c.args.self.now.kept c.args.row.now c.args.slots.now (none_from _ _ _ (sym c.judge_check.ensures ∙ c.in_ok-judge_check.was)) (Some c.in-Some.clash) c.in-Some.ensures c.write_clash-entries.new.row w.row;
+      slots = check_slots (g.F.Field.meaning c.args.self.now.field) (g.met.F.Field.lawful c.args.self.now.field).commutative_ring c.args.self.now.contents c.args.self.now.kept c.args.row.now c.args.slots.now (none_from _ _ _ (sym c.judge_check.ensures ∙ c.in_ok-judge_check.was)) (Some c.in-Some.clash) c.in-Some.ensures c.write_clash-entries.new.slots w.slots;
       field = refl;
-      meaning = check_meaning (g.F.Field.meaning c.args.self.now.field) (g.met.F.Field.lawful c.args.self.now.field).commutative_ring c.args.self.now.contents c.args.self.now.kept c.args.row.now c.args.slots.now (none_from _ _ _ (sym c.judge_check.ensures ∙ c.in-ok-judge-check.was)) (Some c.in-Some.clash) c.in-Some.ensures v c.write-clash-entries.new.row c.write-clash-entries.new.slots said w.row w.slots;
+      meaning = check_meaning (g.F.Field.meaning c.args.self.now.field) (g.met.F.Field.lawful c.args.self.now.field).commutative_ring c.args.self.now.contents c.args.self.now.kept c.args.row.now c.args.slots.now (none_from _ _ _ (sym c.judge_check.ensures ∙ c.in_ok-judge_check.was)) (Some c.in-Some.clash) c.in-Some.ensures v c.write_clash-entries.new.row c.write_clash-entries.new.slots said w.row w.slots;
     }
 
-pub returns-in-err-judge-check : goal.returns-in-err-judge-check
-returns-in-err-judge-check g c =
-    let p = err_from_is_err_and c.from-residual.result c.from-residual.ensures.1 in
-    let q = c.in-err-judge-check.ensures in
+pub returns-in_err-judge_check : goal.returns-in_err-judge_check
+returns-in_err-judge_check g c =
+    let p = err_from_is_err_and c.from_residual.result c.from_residual.ensures.1 in
+    let q = c.in_err-judge_check.ensures in
     record {
       answer = p.1 ∙ ap Err p.2 ∙ refused_other _ _ tt _ q;
       after = refused_stays _ _ tt q _ _;
@@ -69,20 +69,20 @@ returns-in-err-judge-check g c =
       meaning = subst (λ (r : Result Verdict Refusal). CheckMeans (ring (g.F.Field.meaning c.args.self.now.field)) (system (ledger c.args.self.now.contents)) r c.args.row.now c.args.slots.now) (sym p.1) tt;
     }
 
-pub overflow-add-result : goal.overflow-add-result
-overflow-add-result g c =
+pub overflow_add-result : goal.overflow_add-result
+overflow_add-result g c =
     let k = c.args.self.now.contents in
     let w = clash_within k c.args.self.now.kept (ring (g.F.Field.meaning c.args.self.now.field)) c.in-Some.clash c.in-Some.ensures in
     omega (arith, w.0, (facts k c.args.self.now.kept).few_terms)
 
-pub overflow-add-result-in-Some : goal.overflow-add-result-in-Some
-overflow-add-result-in-Some g c =
+pub overflow_add-result-in-Some : goal.overflow_add-result-in-Some
+overflow_add-result-in-Some g c =
     let k = c.args.self.now.contents in
     let w = clash_within k c.args.self.now.kept (ring (g.F.Field.meaning c.args.self.now.field)) c.in-Some.clash c.in-Some.ensures in
     omega (arith, w.1, (facts k c.args.self.now.kept).few_variables)
 
-pub overflow-add-result-in-Some-2 : goal.overflow-add-result-in-Some-2
-overflow-add-result-in-Some-2 g c =
+pub overflow_add-result-in-Some-2 : goal.overflow_add-result-in-Some-2
+overflow_add-result-in-Some-2 g c =
     let k = c.args.self.now.contents in
     let w = clash_within k c.args.self.now.kept (ring (g.F.Field.meaning c.args.self.now.field)) c.in-Some.clash c.in-Some.ensures in
     omega (arith, w.2, (facts k c.args.self.now.kept).few_variables)

@@ -18,7 +18,7 @@ returns-in-Some g c =
 pub loop-a-preserved : goal.loop-a-preserved
 loop-a-preserved g c =
     let k = c.args.self.now.contents in
-    sym (from_passed (ring (g.F.Field.meaning c.args.self.now.field)) (system (ledger k)) (get_or (terms_of k) c.args.j []) c.loop-a.a c.loop-a-test.true c.in-default.ensures) ∙ c.loop-a.invariant
+    sym (from_passed (ring (g.F.Field.meaning c.args.self.now.field)) (system (ledger k)) (get_or (terms_of k) c.args.j []) c.loop-a.a c.loop-a-test.true c.in_default.ensures) ∙ c.loop-a.invariant
 
 pub returns : goal.returns
 returns g c =

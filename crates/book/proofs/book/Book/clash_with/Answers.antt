@@ -8,16 +8,16 @@ use Rattle.book.proofs.book.Book.clash_with.Goals as goal
 pub loop-b-init : goal.loop-b-init
 loop-b-init g c = refl
 
-pub returns-then-not-is-zero : goal.returns-then-not-is-zero
-returns-then-not-is-zero g c =
+pub returns-then-not-is_zero : goal.returns-then-not-is_zero
+returns-then-not-is_zero g c =
     let k = c.args.self.now.contents in
-    sym (with_found (ring (g.F.Field.meaning c.args.self.now.field)) (system (ledger k)) (get_or (terms_of k) c.args.j []) c.args.a c.loop-b.b c.commutator.new.row c.loop-b-test.true c.commutator.ensures c.if-not-is-zero.ensures)
+    sym (with_found (ring (g.F.Field.meaning c.args.self.now.field)) (system (ledger k)) (get_or (terms_of k) c.args.j []) c.args.a c.loop-b.b c.commutator.new.row c.loop-b-test.true c.commutator.ensures c.if-not-is_zero.ensures)
     ∙ c.loop-b.invariant
 
 pub loop-b-preserved : goal.loop-b-preserved
 loop-b-preserved g c =
     let k = c.args.self.now.contents in
-    sym (with_zero (ring (g.F.Field.meaning c.args.self.now.field)) (system (ledger k)) (get_or (terms_of k) c.args.j []) c.args.a c.loop-b.b c.commutator.new.row c.loop-b-test.true c.commutator.ensures c.if-not-is-zero.ensures)
+    sym (with_zero (ring (g.F.Field.meaning c.args.self.now.field)) (system (ledger k)) (get_or (terms_of k) c.args.j []) c.args.a c.loop-b.b c.commutator.new.row c.loop-b-test.true c.commutator.ensures c.if-not-is_zero.ensures)
     ∙ c.loop-b.invariant
 
 pub returns : goal.returns

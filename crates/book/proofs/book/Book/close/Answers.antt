@@ -15,21 +15,21 @@ pub lay-requires : goal.lay-requires
 lay-requires g c =
     let k = c.args.self.now.contents in
     let f = facts k c.args.self.now.kept in
-    (f.few_variables, (f.few_terms, close_connected k c.args.self.now.kept (close_judged k _ c.in-ok-judge-close.ensures)))
+    (f.few_variables, (f.few_terms, close_connected k c.args.self.now.kept (close_judged k _ c.in_ok-judge_close.ensures)))
 
-pub invariant-of-self : goal.invariant-of-self
-invariant-of-self g c =
+pub invariant_of-self : goal.invariant_of-self
+invariant_of-self g c =
     let k = c.args.self.now.contents in
-    let e = close_judged k _ c.in-ok-judge-close.ensures in
+    let e = close_judged k _ c.in_ok-judge_close.ensures in
     let b = c.lay.ensures in
     let r = c.clear.ensures in
     let size = sym c.count-count.ensures.size ∙ c.count-count.ensures.terms ∙ ap (λ (es : List Term). length es) b.terms in
-    ((shut_kept k c.lay.new.self c.clear.new.self c.args.self.now.kept e b.small b.terms size b.leads r.given r.rows r.places).still_kept, tt)
+    record { kept = (shut_kept k c.lay.new.self c.clear.new.self c.args.self.now.kept e b.small b.terms size b.leads r.given r.rows r.places).still_kept }
 
 pub returns : goal.returns
 returns g c =
     let k = c.args.self.now.contents in
-    let e = close_judged k _ c.in-ok-judge-close.ensures in
+    let e = close_judged k _ c.in_ok-judge_close.ensures in
     let b = c.lay.ensures in
     let r = c.clear.ensures in
     let count = c.count-count.ensures.terms ∙ ap (λ (es : List Term). length es) b.terms in
@@ -40,8 +40,8 @@ returns g c =
       field = refl;
     }
 
-pub returns-in-err-judge-close : goal.returns-in-err-judge-close
-returns-in-err-judge-close g c =
-    let p = err_from_is_err_and c.from-residual.result c.from-residual.ensures.1 in
-    let q = c.in-err-judge-close.ensures in
+pub returns-in_err-judge_close : goal.returns-in_err-judge_close
+returns-in_err-judge_close g c =
+    let p = err_from_is_err_and c.from_residual.result c.from_residual.ensures.1 in
+    let q = c.in_err-judge_close.ensures in
     record { answer = p.1 ∙ ap Err p.2 ∙ refused_answer _ _ q _; after = refused_stays _ _ tt q _ _; field = refl }

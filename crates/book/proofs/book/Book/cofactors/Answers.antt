@@ -9,43 +9,43 @@ use Rattle.book.proofs.Granting.{none_from, refused_other, refused_stays}
 use Rattle.book.proofs.Answering.{cofactors_call, cofactors_answer, cofactors_row, cofactors_slots, cofactors_meaning}
 use Rattle.book.proofs.book.Book.cofactors.Goals as goal
 
-pub write-form-count-requires : goal.write-form-count-requires
-write-form-count-requires g c =
-    let a = cofactors_call c.args.self.now.contents c.args.self.now.kept _ c.args.p.now c.args.row.now c.args.slots.now (none_from _ _ _ (sym c.judge_cofactors.ensures ∙ c.in-ok-judge-cofactors.was)) in
+pub write_form-count-requires : goal.write_form-count-requires
+write_form-count-requires g c =
+    let a = cofactors_call c.args.self.now.contents c.args.self.now.kept _ c.args.p.now c.args.row.now c.args.slots.now (none_from _ _ _ (sym c.judge_cofactors.ensures ∙ c.in_ok-judge_cofactors.was)) in
     (a.is_ready, (a.over, a.long))
 
-pub returns-then-is-zero : goal.returns-then-is-zero
-returns-then-is-zero g c =
+pub returns-then-is_zero : goal.returns-then-is_zero
+returns-then-is_zero g c =
     let L = (g.met.F.Field.lawful c.args.self.now.field).commutative_ring in
     let k = c.args.self.now.contents in
     let h = c.args.self.now.kept in
-    let e = none_from _ _ _ (sym c.judge_cofactors.ensures ∙ c.in-ok-judge-cofactors.was) in
-    let w = c.write-form-count.ensures in
+    let e = none_from _ _ _ (sym c.judge_cofactors.ensures ∙ c.in_ok-judge_cofactors.was) in
+    let w = c.write_form-count.ensures in
     record {
-      answer = cofactors_answer (g.F.Field.meaning c.args.self.now.field) L k h c.args.p.now c.args.row.now c.args.slots.now e c.write-form-count.new.row c.write-form-count.new.slots c.write-form-count.result w.row w.listed true (sym c.is-zero.ensures ∙ c.if-is-zero.true);
-      row = cofactors_row (g.F.Field.meaning c.args.self.now.field) L k h c.args.p.now c.args.row.now c.args.slots.now e c.write-form-count.new.row c.write-form-count.new.slots c.write-form-count.result w.row w.listed;
-      slots = cofactors_slots (g.F.Field.meaning c.args.self.now.field) L k h c.args.p.now c.args.row.now c.args.slots.now e c.write-form-count.new.row c.write-form-count.new.slots c.write-form-count.result w.row w.listed;
-      meaning = cofactors_meaning (g.F.Field.meaning c.args.self.now.field) L k h c.args.p.now c.args.row.now c.args.slots.now e c.write-form-count.new.row c.write-form-count.new.slots c.write-form-count.result w.row w.listed;
+      answer = cofactors_answer (g.F.Field.meaning c.args.self.now.field) L k h c.args.p.now c.args.row.now c.args.slots.now e c.write_form-count.new.row c.write_form-count.new.slots c.write_form-count.result w.row w.listed true (sym c.is_zero.ensures ∙ c.if-is_zero.true);
+      row = cofactors_row (g.F.Field.meaning c.args.self.now.field) L k h c.args.p.now c.args.row.now c.args.slots.now e c.write_form-count.new.row c.write_form-count.new.slots c.write_form-count.result w.row w.listed;
+      slots = cofactors_slots (g.F.Field.meaning c.args.self.now.field) L k h c.args.p.now c.args.row.now c.args.slots.now e c.write_form-count.new.row c.write_form-count.new.slots c.write_form-count.result w.row w.listed;
+      meaning = cofactors_meaning (g.F.Field.meaning c.args.self.now.field) L k h c.args.p.now c.args.row.now c.args.slots.now e c.write_form-count.new.row c.write_form-count.new.slots c.write_form-count.result w.row w.listed;
     }
 
-pub returns-else-is-zero : goal.returns-else-is-zero
-returns-else-is-zero g c =
+pub returns-else-is_zero : goal.returns-else-is_zero
+returns-else-is_zero g c =
     let L = (g.met.F.Field.lawful c.args.self.now.field).commutative_ring in
     let k = c.args.self.now.contents in
     let h = c.args.self.now.kept in
-    let e = none_from _ _ _ (sym c.judge_cofactors.ensures ∙ c.in-ok-judge-cofactors.was) in
-    let w = c.write-form-count.ensures in
+    let e = none_from _ _ _ (sym c.judge_cofactors.ensures ∙ c.in_ok-judge_cofactors.was) in
+    let w = c.write_form-count.ensures in
     record {
-      answer = cofactors_answer (g.F.Field.meaning c.args.self.now.field) L k h c.args.p.now c.args.row.now c.args.slots.now e c.write-form-count.new.row c.write-form-count.new.slots c.write-form-count.result w.row w.listed false (sym c.is-zero.ensures ∙ c.if-is-zero.false);
-      row = cofactors_row (g.F.Field.meaning c.args.self.now.field) L k h c.args.p.now c.args.row.now c.args.slots.now e c.write-form-count.new.row c.write-form-count.new.slots c.write-form-count.result w.row w.listed;
-      slots = cofactors_slots (g.F.Field.meaning c.args.self.now.field) L k h c.args.p.now c.args.row.now c.args.slots.now e c.write-form-count.new.row c.write-form-count.new.slots c.write-form-count.result w.row w.listed;
-      meaning = cofactors_meaning (g.F.Field.meaning c.args.self.now.field) L k h c.args.p.now c.args.row.now c.args.slots.now e c.write-form-count.new.row c.write-form-count.new.slots c.write-form-count.result w.row w.listed;
+      answer = cofactors_answer (g.F.Field.meaning c.args.self.now.field) L k h c.args.p.now c.args.row.now c.args.slots.now e c.write_form-count.new.row c.write_form-count.new.slots c.write_form-count.result w.row w.listed false (sym c.is_zero.ensures ∙ c.if-is_zero.false);
+      row = cofactors_row (g.F.Field.meaning c.args.self.now.field) L k h c.args.p.now c.args.row.now c.args.slots.now e c.write_form-count.new.row c.write_form-count.new.slots c.write_form-count.result w.row w.listed;
+      slots = cofactors_slots (g.F.Field.meaning c.args.self.now.field) L k h c.args.p.now c.args.row.now c.args.slots.now e c.write_form-count.new.row c.write_form-count.new.slots c.write_form-count.result w.row w.listed;
+      meaning = cofactors_meaning (g.F.Field.meaning c.args.self.now.field) L k h c.args.p.now c.args.row.now c.args.slots.now e c.write_form-count.new.row c.write_form-count.new.slots c.write_form-count.result w.row w.listed;
     }
 
-pub returns-in-err-judge-cofactors : goal.returns-in-err-judge-cofactors
-returns-in-err-judge-cofactors g c =
-    let p = err_from_is_err_and c.from-residual.result c.from-residual.ensures.1 in
-    let q = c.in-err-judge-cofactors.ensures in
+pub returns-in_err-judge_cofactors : goal.returns-in_err-judge_cofactors
+returns-in_err-judge_cofactors g c =
+    let p = err_from_is_err_and c.from_residual.result c.from_residual.ensures.1 in
+    let q = c.in_err-judge_cofactors.ensures in
     record {
       answer = p.1 ∙ ap Err p.2 ∙ refused_other _ _ tt _ q;
       row = refused_stays _ _ tt q _ _;

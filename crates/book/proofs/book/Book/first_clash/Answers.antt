@@ -18,7 +18,7 @@ returns-in-Some g c =
 pub loop-j-preserved : goal.loop-j-preserved
 loop-j-preserved g c =
     let k = c.args.self.now.contents in
-    sym (terms_passed (ring (g.F.Field.meaning c.args.self.now.field)) (system (ledger k)) c.loop-j.j (omega (arith, c.loop-j-test.true, (ready_contents k c.args.self.now.kept c.requires).size)) c.in-default.ensures)
+    sym (terms_passed (ring (g.F.Field.meaning c.args.self.now.field)) (system (ledger k)) c.loop-j.j (omega (arith, c.loop-j-test.true, (ready_contents k c.args.self.now.kept c.requires).size)) c.in_default.ensures)
     ∙ c.loop-j.invariant
 
 pub returns : goal.returns

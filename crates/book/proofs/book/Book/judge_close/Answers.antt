@@ -7,4 +7,4 @@ list-requires g c = (facts c.args.self.now.contents c.args.self.now.kept).few_te
 
 pub returns : goal.returns
 returns g c =
-    close_granted c.args.self.now.contents c.list.result.now _ c.in-ok-admit.ensures c.list.ensures c.if-is-empty.ensures
+    close_granted c.args.self.now.contents c.list.result.now _ c.in_ok-admit.ensures c.list.ensures c.if-is_empty.ensures

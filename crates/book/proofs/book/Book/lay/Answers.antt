@@ -2,5 +2,5 @@ use Rattle.std.proofs.Common.{arith}
 use Rattle.book.proofs.Filling.{cleared_kept}
 use Rattle.book.proofs.book.Book.lay.Goals as goal
 
-pub invariant-of-self : goal.invariant-of-self
-invariant-of-self g c = (cleared_kept c.args.self.now.contents c.args.variables c.args.self.now.kept (omega arith) (omega arith), tt)
+pub invariant_of-self : goal.invariant_of-self
+invariant_of-self g c = record { kept = cleared_kept c.args.self.now.contents c.args.variables c.args.self.now.kept (omega arith) (omega arith) }

@@ -12,5 +12,5 @@ returns g c =
     let a = ready_contents k c.args.self.now.kept c.requires.0 in
     walk_listed (g.met.F.Field.lawful c.args.self.now.field).commutative_ring (system (ledger k)) a.good k.rules.rows a.stored a.few k.border.leads a.leading
     c.args.first c.args.second (get_or (terms_of k) c.args.j []) c.requires.1.1.0 c.requires.1.1.1 c.unit.new.row c.map.new.row c.raised.result
-    (listing c.args.slots.now c.args.count) (listing c.list-step-count.new.slots c.list-step-count.result) (listing c.list-step.new.slots c.list-step.result)
-    c.unit.ensures c.raised.ensures c.list-step-count.ensures c.map.ensures c.list-step.ensures
+    (listing c.args.slots.now c.args.count) (listing c.list_step-count.new.slots c.list_step-count.result) (listing c.list_step.new.slots c.list_step.result)
+    c.unit.ensures c.raised.ensures c.list_step-count.ensures c.map.ensures c.list_step.ensures

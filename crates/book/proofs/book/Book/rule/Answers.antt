@@ -16,11 +16,11 @@ use Rattle.book.proofs.Admitting.{rule_admitted}
 use Rattle.book.proofs.Ruling.{Rewritten, rule_kept}
 use Rattle.book.proofs.book.Book.rule.Goals as goal
 
-pub kept-row-codes-requires : goal.kept-row-codes-requires
-kept-row-codes-requires g c =
+pub kept_row-codes-requires : goal.kept_row-codes-requires
+kept_row-codes-requires g c =
     let k = c.args.self.now.contents in
     let f = facts k c.args.self.now.kept in
-    let a = rule_admitted (ledger k) _ c.args.e c.args.k c.args.row.now (none_from _ _ _ (sym c.in-ok-place.ensures.value)) in
+    let a = rule_admitted (ledger k) _ c.args.e c.args.k c.args.row.now (none_from _ _ _ (sym c.in_ok-place.ensures.value)) in
     omega (arith, a.long, terms_size k f, f.few_terms)
 
 -- the kept codes are those of the row times the inverse of the leading code
@@ -35,30 +35,30 @@ module _ (A : Arithmetic) (k : Contents) (e : Term) (lead : ℕ) (row : Row) (h 
       rule_kept k e (at - 1) h a.closed (ap (λ (x : ℕ). x - 1) (value_from _ _ _ (sym was))) (omega arith) codes (kept_row A lead row) long
       (ap (λ (n : ℕ). take n codes) (sym (a.long ∙ size)) ∙ kept-codes ∙ ap (λ (b : ℕ). map (λ (c : ℕ). A.product c b) row) found)
 
-pub invariant-of-self : goal.invariant-of-self
-invariant-of-self g c =
-    let p = c.in-ok-place.ensures in (
-      (given (g.F.Field.meaning c.args.self.now.field) c.args.self.now.contents c.args.e c.args.k c.args.row.now c.args.self.now.kept c.in-ok-place.place p.value p.bound.0 p.bound.1
-          c.kept-row-codes.result c.unwrap-or-inverse.result (c.unwrap-or-inverse.ensures ∙ ap (λ (o : Option ℕ). unwrap_or o 0) c.inverse.ensures) c.kept-row-codes.ensures.codes c.kept-row-codes.ensures.long).still_kept,
-      tt,
-    )
+pub invariant_of-self : goal.invariant_of-self
+invariant_of-self g c =
+    let p = c.in_ok-place.ensures in
+    record {
+      kept = (given (g.F.Field.meaning c.args.self.now.field) c.args.self.now.contents c.args.e c.args.k c.args.row.now c.args.self.now.kept c.in_ok-place.place p.value p.bound.0 p.bound.1
+          c.kept_row-codes.result c.unwrap_or-inverse.result (c.unwrap_or-inverse.ensures ∙ ap (λ (o : Option ℕ). unwrap_or o 0) c.inverse.ensures) c.kept_row-codes.ensures.codes c.kept_row-codes.ensures.long).still_kept;
+    }
 
 pub returns : goal.returns
 returns g c =
     let k = c.args.self.now.contents in
     let A = g.F.Field.meaning c.args.self.now.field in
-    let p = c.in-ok-place.ensures in
+    let p = c.in_ok-place.ensures in
     let o = none_from _ _ _ (sym p.value) in
-    let a = given A k c.args.e c.args.k c.args.row.now c.args.self.now.kept c.in-ok-place.place p.value p.bound.0 p.bound.1
-    c.kept-row-codes.result c.unwrap-or-inverse.result (c.unwrap-or-inverse.ensures ∙ ap (λ (x : Option ℕ). unwrap_or x 0) c.inverse.ensures) c.kept-row-codes.ensures.codes c.kept-row-codes.ensures.long in
+    let a = given A k c.args.e c.args.k c.args.row.now c.args.self.now.kept c.in_ok-place.place p.value p.bound.0 p.bound.1
+    c.kept_row-codes.result c.unwrap_or-inverse.result (c.unwrap_or-inverse.ensures ∙ ap (λ (x : Option ℕ). unwrap_or x 0) c.inverse.ensures) c.kept_row-codes.ensures.codes c.kept_row-codes.ensures.long in
     record {
       answer = ap (λ (x : Option Refusal). granted x tt) (sym o);
       after = a.is_ledger ∙ ap (λ (x : Option Refusal). on_grant x (with_row (ledger k) c.args.e (Some (kept_row A c.args.k c.args.row.now))) (ledger k)) (sym o);
       field = refl;
     }
 
-pub returns-in-err-place : goal.returns-in-err-place
-returns-in-err-place g c =
-    let p = err_from_is_err_and c.from-residual.result c.from-residual.ensures.1 in
-    let q = c.in-err-place.ensures.value in
+pub returns-in_err-place : goal.returns-in_err-place
+returns-in_err-place g c =
+    let p = err_from_is_err_and c.from_residual.result c.from_residual.ensures.1 in
+    let q = c.in_err-place.ensures.value in
     record { answer = p.1 ∙ ap Err p.2 ∙ refused_other _ _ _ tt q; after = refused_stays _ _ _ q _ _; field = refl }

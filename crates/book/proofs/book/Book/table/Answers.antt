@@ -6,21 +6,21 @@ use Rattle.book.proofs.Granting.{none_from, granted_now, refused_stays}
 use Rattle.book.proofs.Answering.{table_call}
 use Rattle.book.proofs.book.Book.table.Goals as goal
 
-pub write-table-requires : goal.write-table-requires
-write-table-requires g c =
-    let a = table_call c.args.self.now.contents c.args.self.now.kept c.args.i c.args.table.now (none_from _ _ _ (sym c.judge_table.ensures ∙ c.in-ok-judge-table.was)) in
+pub write_table-requires : goal.write_table-requires
+write_table-requires g c =
+    let a = table_call c.args.self.now.contents c.args.self.now.kept c.args.i c.args.table.now (none_from _ _ _ (sym c.judge_table.ensures ∙ c.in_ok-judge_table.was)) in
     (a.is_ready, (a.variable, a.long))
 
 pub returns : goal.returns
 returns g c =
-    let o = none_from _ _ _ (sym c.judge_table.ensures ∙ c.in-ok-judge-table.was) in
+    let o = none_from _ _ _ (sym c.judge_table.ensures ∙ c.in_ok-judge_table.was) in
     record {
       answer = ap (λ (x : Option Refusal). granted x tt) (sym o);
-      table = c.write-table.ensures ∙ granted_now _ o _ c.args.table.now;
+      table = c.write_table.ensures ∙ granted_now _ o _ c.args.table.now;
     }
 
-pub returns-in-err-judge-table : goal.returns-in-err-judge-table
-returns-in-err-judge-table g c =
-    let p = err_from_is_err_and c.from-residual.result c.from-residual.ensures.1 in
-    let q = c.in-err-judge-table.ensures in
+pub returns-in_err-judge_table : goal.returns-in_err-judge_table
+returns-in_err-judge_table g c =
+    let p = err_from_is_err_and c.from_residual.result c.from_residual.ensures.1 in
+    let q = c.in_err-judge_table.ensures in
     record { answer = p.1 ∙ ap Err p.2 ∙ q; table = refused_stays _ _ tt q _ _ }

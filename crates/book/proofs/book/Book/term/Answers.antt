@@ -18,15 +18,15 @@ module _ {V : Type 0} (k : Contents) (t : Term) (h : kept k ≡ true) (r : Resul
   added : Pushed k t
   added = pushed_kept k t h accepted
 
-pub invariant-of-self : goal.invariant-of-self
-invariant-of-self g c =
-    ((added c.args.self.now.contents c.args.t c.args.self.now.kept c.judge_term.result _ _ c.judge_term.ensures c.in-ok-judge-term.was).still_kept, tt)
+pub invariant_of-self : goal.invariant_of-self
+invariant_of-self g c =
+    record { kept = (added c.args.self.now.contents c.args.t c.args.self.now.kept c.judge_term.result _ _ c.judge_term.ensures c.in_ok-judge_term.was).still_kept }
 
 pub returns : goal.returns
 returns g c =
     let k = c.args.self.now.contents in
     let t = c.args.t in
-    let e = accepted k t c.args.self.now.kept c.judge_term.result _ _ c.judge_term.ensures c.in-ok-judge-term.was in
+    let e = accepted k t c.args.self.now.kept c.judge_term.result _ _ c.judge_term.ensures c.in_ok-judge_term.was in
     let a = pushed_kept k t c.args.self.now.kept e in
     record {
       answer = ap (λ (o : Option Refusal). granted o tt) (sym e);
@@ -34,8 +34,8 @@ returns g c =
       field = refl;
     }
 
-pub returns-in-err-judge-term : goal.returns-in-err-judge-term
-returns-in-err-judge-term g c =
-    let p = err_from_is_err_and c.from-residual.result c.from-residual.ensures.1 in
-    let q = c.in-err-judge-term.ensures in
+pub returns-in_err-judge_term : goal.returns-in_err-judge_term
+returns-in_err-judge_term g c =
+    let p = err_from_is_err_and c.from_residual.result c.from_residual.ensures.1 in
+    let q = c.in_err-judge_term.ensures in
     record { answer = p.1 ∙ ap Err p.2 ∙ q; after = refused_stays _ _ tt q _ _; field = refl }

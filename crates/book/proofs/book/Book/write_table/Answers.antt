@@ -6,8 +6,8 @@ use Rattle.book.proofs.book.Book.write_table.Goals as goal
 pub loop-j-init : goal.loop-j-init
 loop-j-init g c = tabled_none (ring (g.F.Field.meaning c.args.self.now.field)) c.args.self.now.contents c.args.i c.args.table.now
 
-pub slice-bounds-part-end : goal.slice-bounds-part-end
-slice-bounds-part-end g c = row_within c.loop-j.j c.args.self.now.contents.basis.size c.loop-j.table c.loop-j-test.true (c.loop-j.auto.table ∙ c.requires.1.1)
+pub slice_bounds-part-end : goal.slice_bounds-part-end
+slice_bounds-part-end g c = row_within c.loop-j.j c.args.self.now.contents.basis.size c.loop-j.table c.loop-j-test.true (c.loop-j.auto.table ∙ c.requires.1.1)
 
 pub loop-j-preserved : goal.loop-j-preserved
 loop-j-preserved g c =

@@ -8,7 +8,7 @@ loop-entry-init g c = refl
 
 pub loop-entry-preserved : goal.loop-entry-preserved
 loop-entry-preserved g c =
-    negated_more (ring (g.F.Field.meaning c.args.f.now)) c.args.slots.now c.loop-entry.slots c.loop-entry.entry-index _ c.negative_entry.result c.loop-entry-test.true c.loop-entry.auto.slots c.loop-entry.invariant c.negative_entry.ensures
+    negated_more (ring (g.F.Field.meaning c.args.f.now)) c.args.slots.now c.loop-entry.slots c.loop-entry.entry-index _ c.negative-entry.result c.loop-entry-test.true c.loop-entry.auto.slots c.loop-entry.invariant c.negative-entry.ensures
 
 pub returns : goal.returns
 returns g c =

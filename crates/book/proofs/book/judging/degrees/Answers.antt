@@ -7,8 +7,8 @@ use Rattle.book.proofs.book.judging.degrees.Goals as goal
 pub loop-x-init : goal.loop-x-init
 loop-x-init c = omega arith
 
-pub overflow-add-sum : goal.overflow-add-sum
-overflow-add-sum c =
+pub overflow_add-sum : goal.overflow_add-sum
+overflow_add-sum c =
     let p = c.args.p.now in
     let i = c.loop-x.x-index in
     let more : degrees (drop i p) ≡ degree (get_or p i (0, [])).1 + degrees (drop (i + 1) p) = at_drop_more degrees p i (0, []) c.loop-x-test.true in

@@ -12,7 +12,7 @@ loop-j-preserved c =
     let b = c.args.basis.now in
     let long : length b.terms ≡ 32 = search rules in
     let size : length (counted b) ≡ b.size = length-take-le b.size b.terms (omega (arith, long, c.requires)) in
-    (border_more b.variables c.loop-j.j (counted b) (laid_terms c.loop-j.self) (laid_terms c.lay-products.new.self) (omega arith) c.loop-j.invariant.0 c.lay-products.ensures.terms, omega arith)
+    (border_more b.variables c.loop-j.j (counted b) (laid_terms c.loop-j.self) (laid_terms c.lay_products.new.self) (omega arith) c.loop-j.invariant.0 c.lay_products.ensures.terms, omega arith)
 
 pub loop-i-init : goal.loop-i-init
 loop-i-init c =

@@ -18,8 +18,8 @@ loop-i-preserved c =
     let t = get_or terms c.args.j [] in
     let i = c.loop-i.i in
     let is : c.raised.result ≡ times i t = c.raised.ensures ∙ raised_at n i c.args.j size terms c.requires.linked c.requires.few.1 long (omega arith) c.requires.within in (
-      products_more S E (laid_terms c.lay-product.new.self) _ n i t c.loop-i-test.true c.loop-i.invariant.0
-          (c.lay-product.ensures.terms ∙ ap (λ (e : Term). extended S E (e ∷ [])) is),
+      products_more S E (laid_terms c.lay_product.new.self) _ n i t c.loop-i-test.true c.loop-i.invariant.0
+          (c.lay_product.ensures.terms ∙ ap (λ (e : Term). extended S E (e ∷ [])) is),
       omega arith,
     )
 
