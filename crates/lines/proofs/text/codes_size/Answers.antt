@@ -2,8 +2,8 @@ use Rattle.std.proofs.Common.{length, ap, arith}
 use Rattle.lines.proofs.Puts.{codes_length, codes_all}
 use Rattle.lines.proofs.text.codes_size.Goals as goal
 
-pub overflow-add-size-in-loop-c : goal.overflow-add-size-in-loop-c
-overflow-add-size-in-loop-c c = omega (arith, c.loop-c.invariant.1, c.digits.ensures.few, c.loop-c-test.true)
+pub overflow_add-size-in-loop-c : goal.overflow_add-size-in-loop-c
+overflow_add-size-in-loop-c c = omega (arith, c.loop-c.invariant.1, c.digits.ensures.few, c.loop-c-test.true)
 
 pub loop-c-preserved : goal.loop-c-preserved
 loop-c-preserved c = (

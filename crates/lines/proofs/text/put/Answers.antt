@@ -6,4 +6,4 @@ pub returns : goal.returns
 returns c =
     let k = length c.args.bytes.now in
     let long : k ≡ (c.args.at + k) - c.args.at = omega arith in
-    record { value = refl; after = put_mid-paste c.args.at _ c.args.out.now c.copy-from-slice.new.self c.args.bytes.now k c.copy-from-slice.ensures.after long refl }
+    record { value = refl; after = put_mid-paste c.args.at _ c.args.out.now c.copy_from_slice.new.self c.args.bytes.now k c.copy_from_slice.ensures.after long refl }

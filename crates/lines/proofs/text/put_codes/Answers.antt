@@ -8,8 +8,8 @@ use Rattle.lines.proofs.text.put_codes.Goals as goal
 pub loop-c-init : goal.loop-c-init
 loop-c-init c = (pasted_none c.args.at c.args.out.now (omega (arith, c.requires)), omega arith)
 
-pub put-spaced-to-requires : goal.put-spaced-to-requires
-put-spaced-to-requires c =
+pub put_spaced-to-requires : goal.put_spaced-to-requires
+put_spaced-to-requires c =
     let v = c.args.codes.now in
     let k = c.loop-c.c-index in
     omega (arith, c.requires, codes_length v k c.loop-c-test.true, codes_front v (k + 1), c.loop-c.invariant.1, c.loop-c.auto.out)
@@ -21,7 +21,7 @@ loop-c-preserved c =
     let at = c.args.at in
     let out = c.args.out.now in
     let more = codes_more v k c.loop-c-test.true in
-    let both = put_piece out c.loop-c.out c.put-spaced-to.new.out (all_spaced (take k v)) (spaced (get_or v k 0)) at c.loop-c.to c.put-spaced-to.result (omega (arith, c.requires)) c.loop-c.invariant.0 c.loop-c.invariant.1 c.put-spaced-to.ensures.after c.put-spaced-to.ensures.value in
+    let both = put_piece out c.loop-c.out c.put_spaced-to.new.out (all_spaced (take k v)) (spaced (get_or v k 0)) at c.loop-c.to c.put_spaced-to.result (omega (arith, c.requires)) c.loop-c.invariant.0 c.loop-c.invariant.1 c.put_spaced-to.ensures.after c.put_spaced-to.ensures.value in
     (both.0 ∙ ap (λ bs. pasted at bs out) (sym more), both.1 ∙ ap (λ bs. at + length bs) (sym more))
 
 pub returns : goal.returns

@@ -19,12 +19,12 @@ returns g c =
     let p = vec_items c.args.p.now in
     let row = vec_items c.args.row.now in
     let b = c.deref.ensures.value in
-    let e = c.deref-mut.ensures.value in
+    let e = c.deref_mut.ensures.value in
     record {
       answer = renamed_is (λ y. Formed y) (judge_form A.order L p row) (all_zero (normal_form R B p)) _ _ c.formed.ensures (c.form.ensures.answer ∙ (λ i. granted (judge_form A.order L (b i) (e i)) (all_zero (normal_form R B (b i)))));
       after = on_grant_same (judge_form A.order L p row) L;
       finish =
-          ap (form p) (with_items_is c.args.row.now c.form.new.row (c.form.auto.row ∙ c.deref-mut.ensures.len))
+          ap (form p) (with_items_is c.args.row.now c.form.new.row (c.form.auto.row ∙ c.deref_mut.ensures.len))
           ∙ on_grant_one (form p) (judge_form A.order L p row) (normal_form R B p) row c.form.new.row
           (c.form.ensures.row ∙ (λ i. on_grant (judge_form A.order L (b i) (e i)) (normal_form R B (b i)) (e i)));
       field = refl;

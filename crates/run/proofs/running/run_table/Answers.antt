@@ -17,12 +17,12 @@ returns g c =
     let L = ledger c.args.book.now.contents in
     let B = system L in
     let rows = vec_items c.args.rows.now in
-    let e = c.deref-mut.ensures.value in
+    let e = c.deref_mut.ensures.value in
     record {
       answer = renamed_is (λ _. Done) (judge_table L c.args.i rows) tt _ _ c.done.ensures (c.table.ensures.answer ∙ (λ i. granted (judge_table L c.args.i (e i)) tt));
       after = on_grant_same (judge_table L c.args.i rows) L;
       finish =
-          ap (table c.args.i) (with_items_is c.args.rows.now c.table.new.table (c.table.auto.table ∙ c.deref-mut.ensures.len))
+          ap (table c.args.i) (with_items_is c.args.rows.now c.table.new.table (c.table.auto.table ∙ c.deref_mut.ensures.len))
           ∙ on_grant_one (table c.args.i) (judge_table L c.args.i rows) (table_rows R B (c.args.i - 1) L.terms) rows c.table.new.table
           (c.table.ensures.table ∙ (λ i. on_grant (judge_table L c.args.i (e i)) (table_rows R B (c.args.i - 1) L.terms) (e i)));
       field = refl;
