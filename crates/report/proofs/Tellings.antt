@@ -16,7 +16,7 @@ use Rattle.book.specs.Ledger.{Ledger, new_ledger, system}
 use Rattle.book.specs.Effects.{laid, verdict, clash_row, clash_entries, written, yes_no}
 use Rattle.book.specs.Promise.{Accounted, Accounts, VerdictMeans}
 use Rattle.run.specs.Calls.{Step, lay, term, close, rule, strike, check, form as form_step, cofactor, table, judge, value, finished, answer, next, finish}
-use Rattle.run.proofs.Law.{Kept, new_kept, changed_kept, next_kept, granted_meaning}
+use Rattle.run.proofs.Law.{Kept, new_kept, changed_kept, next_kept, granted_meaning, granted_tells}
 use Rattle.sheet.specs.Fault as reading
 use Rattle.sheet.specs.Reading.{State, Seen, open_sheet, heading_number, begun}
 use Rattle.sheet.proofs.Heads.{next_ok}
@@ -67,8 +67,8 @@ module _ (A : Arithmetic) (laws : Lawful A) (L : Ledger) (k : Kept A L) where
         member = eqb (yes_no (all_zero (normal_form (ring A) (system L) p))) 1;
         entries = es;
         line = refl;
-        tells = m.tells;
-        accounts = subst (Accounts (ring A) (system L) p (normal_form (ring A) (system L) p)) (take_at es (drop (length es) slots) (length es) refl) m.accounts;
+        tells = granted_tells A laws L k (cofactor p row slots) e;
+        accounts = subst (Accounts (ring A) (system L) p (normal_form (ring A) (system L) p)) (take_at es (drop (length es) slots) (length es) refl) m;
       }
   says (table i rows) e = refl
 

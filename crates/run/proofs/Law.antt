@@ -295,7 +295,7 @@ module _ (A : Arithmetic) (laws : Lawful A) (L : Ledger) (k : Kept A L) where
       go None e = granted_meaning s e
       go (Some r) e = tt
 
-  granted_tells : (s : Step) → judge A L s ≡ None → Tells A L (finished A L s) (value A L s)
+  pub granted_tells : (s : Step) → judge A L s ≡ None → Tells A L (finished A L s) (value A L s)
   granted_tells (lay n) e = tt
   granted_tells (term t) e = tt
   granted_tells close e = tt

@@ -11,6 +11,6 @@ returns c =
     let all : left c.of-numbers.result ≡ xs = ap numbers_of c.of-numbers.ensures in
     let rest : left c.exponents-term.new.self ≡ drop n xs = c.exponents-term.ensures.after ∙ ap (drop n) all in
     let term = c.exponents-term.ensures.value ∙ ap (exponents_of n) all in
-    let lead = out_at xs (left c.exponents-term.new.self) n c.number.result c.unwrap-or-lead.result rest c.number.ensures.value c.unwrap-or-lead.ensures in
-    let row = c.in-ok-row.ensures ∙ drop_one xs (left c.exponents-term.new.self) (left c.number.new.self) n rest c.number.ensures.after in
+    let lead = out_at xs (left c.exponents-term.new.self) n c.number.result c.unwrap_or-lead.result rest c.number.ensures.value c.unwrap_or-lead.ensures in
+    let row = c.in_ok-row.ensures ∙ drop_one xs (left c.exponents-term.new.self) (left c.number.new.self) n rest c.number.ensures.after in
     (λ i. rule (term i) (lead i) (row i))

@@ -7,4 +7,4 @@ pub returns : goal.returns
 returns c =
     let z : c.in-Ok.size - 0 ≡ c.in-Ok.size = omega arith in
     let front = ap (λ k. take k c.write.new.out) z ∙ front_written (replicate 1024 0) (text (said c.args.line)) c.write.new.out c.in-Ok.size c.in-Ok.ensures.value c.in-Ok.ensures.after in
-    made_pushed c.extend-from-slice.result (vec_items c.args.out.now) _ _ front c.extend-from-slice.ensures.items
+    made_pushed c.extend_from_slice.result (vec_items c.args.out.now) _ _ front c.extend_from_slice.ensures.items

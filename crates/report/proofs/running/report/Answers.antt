@@ -10,9 +10,9 @@ returns-in-Ok c =
     let same = c.in-Ok.ensures ∙ ap (λ bs. bs ++ texts (report_lines bytes)) c.new-out.ensures.items in
     record { text = same; meaning = record { lines = report_lines bytes; text = same; tells = reported bytes } }
 
-pub returns-in-ok-push-stop : goal.returns-in-ok-push-stop
-returns-in-ok-push-stop c =
+pub returns-in_ok-push_stop-in-Err : goal.returns-in_ok-push_stop-in-Err
+returns-in_ok-push_stop-in-Err c =
     let bytes = c.args.sheet.now in
-    let same = closed_ends c.in-Err.stop (vec_items c.new-out.result) (vec_items c.run-sheet.new.out) (vec_items c.push-stop.new.out) (report_lines bytes) c.in-Err.ensures c.in-ok-push-stop.ensures
+    let same = closed_ends c.in-Err.stop (vec_items c.new-out.result) (vec_items c.run_sheet.new.out) (vec_items c.push_stop.new.out) (report_lines bytes) c.in-Err.ensures c.in_ok-push_stop-in-Err.ensures
     ∙ ap (λ bs. bs ++ texts (report_lines bytes)) c.new-out.ensures.items in
     record { text = same; meaning = record { lines = report_lines bytes; text = same; tells = reported bytes } }

@@ -12,19 +12,19 @@ use Rattle.report.proofs.running.run_over.Goals as goal
 
 pub returns-in-Err : goal.returns-in-Err
 returns-in-Err g c =
-    lay_refused (state c.args.reader.now) (g.F.Field.meaning c.args.field) c.in-ok-variables.variables c.in-ok-variables.byte c.in-ok-variables.ensures.value c.in-Err.refusal (vec_items c.args.out.now) (length c.args.reader.now.bytes.now)
-    (some_from (judge_lay c.in-ok-variables.variables) tt c.in-Err.refusal (sym c.in-Err.ensures.answer))
+    lay_refused (state c.args.reader.now) (g.F.Field.meaning c.args.field) c.in_ok-variables.variables c.in_ok-variables.byte c.in_ok-variables.ensures.value c.in-Err.refusal (vec_items c.args.out.now) (length c.args.reader.now.bytes.now)
+    (some_from (judge_lay c.in_ok-variables.variables) tt c.in-Err.refusal (sym c.in-Err.ensures.answer))
 
 pub returns : goal.returns
 returns g c =
     let s = state c.args.reader.now in
     let A = g.F.Field.meaning c.args.field in
-    let v = c.in-ok-variables.variables in
-    let none = none_from (judge_lay v) tt c.in-default.field-0 (sym c.in-default.ensures.answer) in
+    let v = c.in_ok-variables.variables in
+    let none = none_from (judge_lay v) tt c.in_default.field-0 (sym c.in_default.ensures.answer) in
     let L = ledger c.lay.new.self.contents in
     let is : L ≡ laid v = c.lay.ensures.after ∙ ap (λ (o : Option Refusal). on_grant o (laid v) (ledger c.new-book.result.contents)) none in
     let S = state c.begin.new.self in
     let stands = c.begin.ensures ∙ ap (begun v) c.heading_number.ensures.after in
-    ends_same c.run-records.result (vec_items c.args.out.now) (vec_items c.run-records.new.out) (lines (g.F.Field.meaning c.lay.new.self.field) L (items (left S) S)) (told (with_field s A) (length s.sheet))
-    (field_lines s A v c.in-ok-variables.byte c.in-ok-variables.ensures.value none (g.F.Field.meaning c.lay.new.self.field) L S (ap g.F.Field.meaning (c.lay.ensures.field ∙ c.new-book.ensures.field)) is stands)
-    c.run-records.ensures
+    ends_same c.run_records.result (vec_items c.args.out.now) (vec_items c.run_records.new.out) (lines (g.F.Field.meaning c.lay.new.self.field) L (items (left S) S)) (told (with_field s A) (length s.sheet))
+    (field_lines s A v c.in_ok-variables.byte c.in_ok-variables.ensures.value none (g.F.Field.meaning c.lay.new.self.field) L S (ap g.F.Field.meaning (c.lay.ensures.field ∙ c.new-book.ensures.field)) is stands)
+    c.run_records.ensures
