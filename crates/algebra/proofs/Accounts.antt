@@ -1,21 +1,21 @@
 -- Every walk accounts for itself: a row's combination times a word is the last row's combination plus the entries.
 -- Nothing is assumed of the rules. Assumes nothing.
-use Rattle.std.proofs.Common.{◌≡◌, ℕ, zero, suc, ◌+◌, ◌<◌, ◌≤◌, Bool, true, false, cond, eqb, List, [], ◌∷◌, ◌++◌, map, length, get_or, sym, refl, ap, ◌∙◌, subst, ⊎_elim, append_assoc, arith}
+use Rattle.std.proofs.Common.{◌≡◌, ℕ, suc, ◌<◌, true, false, cond, eqb, List, [], ◌∷◌, ◌++◌, length, get_or, sym, refl, ap, ◌∙◌, ⊎_elim, arith}
 use Rattle.std.proofs.lemmas.Bool.{cases_Bool, cond-true, cond-false, eqb-true}
 use Rattle.field.specs.Arithmetic.{Ring, CommutativeRing, read}
-use Rattle.field.specs.Laws.{derived, positive, read_code, read_read, product_right, sum_right, sum_left}
+use Rattle.field.specs.Laws.{derived, positive, read_code, read_read, product_right}
 use Rattle.algebra.specs.Term.{Term, one, times, word, spelled, has, place, InVariables, Letters}
 use Rattle.algebra.specs.Term as term
-use Rattle.algebra.specs.Polynomial.{Polynomial, Equal, Over, negative, multiple}
-use Rattle.algebra.specs.Border.{Row, System, combination, borders, at_place, rule, rule_polynomials, LawfulSystem}
+use Rattle.algebra.specs.Polynomial.{Polynomial, Equal, Over, multiple}
+use Rattle.algebra.specs.Border.{Row, System, combination, borders, at_place, rule, LawfulSystem}
 use Rattle.algebra.specs.declared.Entry.{Entry}
 use Rattle.algebra.specs.Walk.{unit, image, mapped, last_row, entry_at, step_entries, entries, sum_of_entries, zeros, at_one, add_rows, form_onto, normal_form, cofactors}
 use Rattle.algebra.specs.Clash.{twice, commutator, commutator_entries, negative_row, negative_entries}
 use Rattle.algebra.proofs.Terms.{has_head, has_tail, times_product, one_product, product_one, spelled_word, spelled_length, times_comm, word_letters}
-use Rattle.algebra.proofs.Borders.{Stands, stands, product_leads, not_in_border, not_in_set, place_absent, rule_at, term_in_variables, first_term}
+use Rattle.algebra.proofs.Borders.{stands, product_leads, not_in_border, not_in_set, place_absent, rule_at, term_in_variables, first_term}
 use Rattle.algebra.proofs.Totals.{total, zero_plus, plus_zero, total_below, total_append, total_negative, total_multiple, equal_from_totals}
 use Rattle.algebra.proofs.Rows.{interchange, total_add, total_zeros, total_at_one, total_agree, total_negative_row}
-use Rattle.algebra.proofs.Maps.{pull, total_mapped, total_last_row, pull_inside}
+use Rattle.algebra.proofs.Maps.{pull, total_mapped, pull_inside}
 
 module _ {R : Ring} (laws : CommutativeRing R) (B : System) (good : LawfulSystem B) where
   open derived laws use {sum_comm, sum_assoc, sum_left_comm, product_sum, zero_product, product_zero, one_product as code_one_product, sum_below, product_below, negative_product, negative_of_sum, negative_zero, sum_negative, negative_sum}

@@ -1,22 +1,22 @@
 -- The border basis theorem, and what normal forms mean. Assumes nothing.
-use Rattle.std.proofs.Common.{◌≡◌, ℕ, zero, suc, ◌+◌, ◌<◌, ◌≤◌, Bool, true, false, cond, eqb, List, [], ◌∷◌, ◌++◌, map, length, get_or, sym, refl, ap, ◌∙◌, subst, ⊎_elim, arith}
-use Rattle.std.proofs.lemmas.Bool.{cases_Bool, cases_lt, cond-true, cond-false, both_ways, and_parts, eqb-true}
+use Rattle.std.proofs.Common.{◌≡◌, ℕ, zero, suc, ◌<◌, Bool, true, false, cond, eqb, List, [], ◌∷◌, ◌++◌, length, get_or, sym, refl, ap, ◌∙◌, subst, ⊎_elim, arith}
+use Rattle.std.proofs.lemmas.Bool.{cases_lt, cond-true, cond-false, and_parts, eqb-true}
 use Rattle.field.specs.Arithmetic.{Ring, CommutativeRing, read}
-use Rattle.field.specs.Laws.{derived, positive, read_code, read_below}
+use Rattle.field.specs.Laws.{derived, positive, read_code}
 use Rattle.algebra.specs.Term.{Term, one, times, word, spelled, has, place, InVariables, Letters}
 use Rattle.algebra.specs.Term as term
-use Rattle.algebra.specs.Polynomial.{Polynomial, Equal, Over, negative, difference, multiple, product}
-use Rattle.algebra.specs.Border.{Row, System, combination, borders, at_place, rule, LawfulSystem, IsRow, AreRows, codes_below}
+use Rattle.algebra.specs.Polynomial.{Polynomial, Equal, Over, difference, multiple, product}
+use Rattle.algebra.specs.Border.{Row, System, combination, borders, at_place, rule, LawfulSystem, IsRow, AreRows}
 use Rattle.algebra.specs.Ideal.{sum_of_multiples, AllOver, InIdeal}
 use Rattle.algebra.specs.declared.Entry.{Entry}
 use Rattle.algebra.specs.Walk.{zeros, unit, image, map_onto, mapped, last_row, entry_at, step_entries, entries, sum_of_entries, at_one, add_rows, scale, form_onto, normal_form, cofactors, all_zero}
 use Rattle.algebra.specs.Clash.{Commute, twice, commutator, commutator_entries, negative_row, negative_entries}
 use Rattle.algebra.proofs.Terms.{product_times, product_one, one_product, word_letters, spelled_in_variables, product_in_variables, one_in_variables, has_head, has_tail}
-use Rattle.algebra.proofs.Borders.{Distinct, connected_induction, connected_distinct, term_in_variables, get_or_has, place_of, border_distinct, border_multiple, product_leads, not_in_set, rule_past, Stands, stands}
-use Rattle.algebra.proofs.Totals.{indicator, total, zero_plus, plus_zero, total_below, total_append, total_multiple, total_difference, equal_from_totals, totals_from_equal}
+use Rattle.algebra.proofs.Borders.{Distinct, connected_induction, connected_distinct, term_in_variables, get_or_has, place_of, border_distinct, border_multiple, product_leads, not_in_set, rule_past, stands}
+use Rattle.algebra.proofs.Totals.{total, zero_plus, plus_zero, total_below, total_append, total_multiple, total_difference, equal_from_totals, totals_from_equal}
 use Rattle.algebra.proofs.Rows.{total_agree, rows_equal, zeros_row, add_row, all_zero_zeros, interchange, Codes, total_zeros, map_length, at_one_length}
-use Rattle.algebra.proofs.Maps.{pull, pull_word, extended, Agree, pull_passes, pull_inside, extended_times, total_normal_form}
-use Rattle.algebra.proofs.Accounts.{Ruled, ruled, form_account, commutator_account, negative_account, entries_append}
+use Rattle.algebra.proofs.Maps.{pull, pull_word, extended, pull_passes, pull_inside, extended_times, total_normal_form}
+use Rattle.algebra.proofs.Accounts.{ruled, form_account, commutator_account, negative_account, entries_append}
 
 -- every multiplier of the entries is in the first n variables
 abbrev Multipliers : ℕ → List Entry → Type 0

@@ -1,11 +1,10 @@
 -- Connected sets and their borders. Assumes nothing.
-use Rattle.std.proofs.Common.{◌≡◌, ℕ, zero, suc, ◌+◌, ◌<◌, ◌≤◌, Bool, true, false, cond, not, ◌&&◌, ◌||◌, ◌⊎◌, List, [], ◌∷◌, ◌++◌, length, get_or, sym, refl, ap, ◌∙◌, subst, inl, inr, ⊎_elim, zero-add, arith}
+use Rattle.std.proofs.Common.{◌≡◌, ℕ, zero, suc, ◌+◌, ◌<◌, ◌≤◌, Bool, true, false, cond, not, ◌&&◌, ◌⊎◌, List, [], ◌∷◌, ◌++◌, length, get_or, sym, refl, ap, ◌∙◌, subst, inl, inr, ⊎_elim, zero-add, arith}
 use Rattle.std.proofs.lemmas.Bool.{cases_Bool, and_parts, or_cases, or_left, or_right, or_parts, both_ways, cond-true, cond-false, not-true}
 use Rattle.field.specs.Arithmetic.{Ring}
 use Rattle.algebra.specs.Term.{Term, one, times, same, has, place, next_place, InVariables}
-use Rattle.algebra.specs.Polynomial.{Polynomial}
 use Rattle.algebra.specs.Border.{multiples_from, multiples, grows, connected, fresh, border, Row, rule_polynomial, rule_polynomials}
-use Rattle.algebra.proofs.Terms.{same_true, same_refl, apart, same_sym, has_head, has_tail, has_cases, has_append_left, has_append_right, has_append_cases, one_in_variables, times_in_variables}
+use Rattle.algebra.proofs.Terms.{same_true, same_refl, has_head, has_tail, has_cases, has_append_left, has_append_right, has_append_cases, one_in_variables, times_in_variables}
 
 -- no term stands twice
 abbrev pub Distinct : List Term → Type 0

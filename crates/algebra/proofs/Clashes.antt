@@ -1,14 +1,14 @@
 -- The first clash: there is none exactly when the maps commute. Assumes nothing.
-use Rattle.std.proofs.Common.{◌≡◌, ℕ, zero, suc, ◌+◌, ◌-◌, ◌<◌, ◌≤◌, Bool, true, false, cond, ◌⊎◌, List, [], ◌∷◌, ◌++◌, map, length, get_or, Some, None, Option, sym, refl, ap, ◌∙◌, subst, inl, inr, ⊎_elim, arith}
-use Rattle.std.proofs.lemmas.Bool.{cases_Bool, cases_order, both_ways}
+use Rattle.std.proofs.Common.{◌≡◌, ℕ, zero, suc, ◌+◌, ◌-◌, ◌<◌, ◌≤◌, Bool, true, false, cond, ◌⊎◌, List, [], ◌∷◌, ◌++◌, length, get_or, Some, None, Option, sym, refl, ap, ◌∙◌, subst, inl, inr, ⊎_elim, arith}
+use Rattle.std.proofs.lemmas.Bool.{cases_order, both_ways}
 use Rattle.field.specs.Arithmetic.{Ring, CommutativeRing}
 use Rattle.algebra.specs.Term.{Term, has}
-use Rattle.algebra.specs.Border.{Row, System, LawfulSystem, combination}
+use Rattle.algebra.specs.Border.{Row, System, LawfulSystem}
 use Rattle.algebra.specs.Walk.{mapped, unit, all_zero}
 use Rattle.algebra.specs.declared.Clash.{Clash}
 use Rattle.algebra.specs.Clash.{Commute, twice, commutator, pairs_with, pairs_from, pairs, clash_at, clash_or, clash_from, first_clash}
-use Rattle.algebra.specs.Theorems.{Dependence, WalksAccount, BorderBasis, NormalForms, WalksAccountAlways, BorderBasisTheorem, NormalFormTheorem}
-use Rattle.algebra.proofs.Terms.{has_head, has_tail, has_cases}
+use Rattle.algebra.specs.Theorems.{Dependence, WalksAccountAlways, BorderBasisTheorem, NormalFormTheorem}
+use Rattle.algebra.proofs.Terms.{has_cases}
 use Rattle.algebra.proofs.Borders.{get_or_has}
 use Rattle.algebra.proofs.Totals.{equal_from_totals}
 use Rattle.algebra.proofs.Rows.{difference_zero}

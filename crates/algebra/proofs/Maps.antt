@@ -1,15 +1,15 @@
 -- The linear maps seen from weights: mapping a row by a variable is pulling the weight back. Assumes nothing.
-use Rattle.std.proofs.Common.{◌≡◌, ℕ, zero, suc, ◌+◌, ◌<◌, ◌≤◌, Bool, true, false, cond, List, [], ◌∷◌, ◌++◌, map, length, replicate, sym, refl, ap, ◌∙◌, subst, ⊎_elim, zero-add, arith}
+use Rattle.std.proofs.Common.{◌≡◌, ℕ, zero, suc, ◌+◌, ◌<◌, true, List, [], ◌∷◌, ◌++◌, length, replicate, sym, refl, ap, ◌∙◌, subst, zero-add, arith}
 use mathlib.Core.Path.{fun_ext}
-use Rattle.std.proofs.lemmas.Bool.{cond-true, cond-false}
+use Rattle.std.proofs.lemmas.Bool.{cond-true}
 use Rattle.field.specs.Arithmetic.{Ring, CommutativeRing, read}
-use Rattle.field.specs.Laws.{derived, positive, read_code}
-use Rattle.algebra.specs.Term.{Term, one, times, word_from, word, same, has, Letters}
+use Rattle.field.specs.Laws.{derived, read_code}
+use Rattle.algebra.specs.Term.{Term, one, times, word_from, word, has, Letters}
 use Rattle.algebra.specs.Polynomial.{Polynomial}
 use Rattle.algebra.specs.Border.{Row, System, combination, connected}
 use Rattle.algebra.specs.Walk.{zeros, add_rows, scale, unit, image, map_onto, mapped, last_row, at_one, form_onto, normal_form}
 use Rattle.algebra.specs.Clash.{twice, Commute}
-use Rattle.algebra.proofs.Borders.{Distinct, first_term, connected_distinct, has_one}
+use Rattle.algebra.proofs.Borders.{first_term, connected_distinct, has_one}
 use Rattle.algebra.proofs.Totals.{total, zero_plus, plus_zero, total_below}
 use Rattle.algebra.proofs.Rows.{total_add, total_scale, total_zeros, total_unit, total_at_one, total_agree}
 

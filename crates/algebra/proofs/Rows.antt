@@ -1,11 +1,9 @@
 -- Rows under weights: the total of a row's combination is linear in the row. Assumes nothing.
-use Rattle.std.proofs.Common.{◌≡◌, ℕ, zero, suc, ◌<◌, Bool, true, false, cond, List, [], ◌∷◌, ◌++◌, map, length, sym, refl, ap, ◌∙◌, subst, ⊎_elim, arith}
-use mathlib.Core.Path.{fun_ext}
-use Rattle.std.proofs.lemmas.Bool.{cases_Bool, cond-true, cond-false, cond_both, both_ways, or_parts, or_cases, and_parts, eqb-true}
+use Rattle.std.proofs.Common.{◌≡◌, ℕ, suc, ◌<◌, true, false, List, [], ◌∷◌, map, length, sym, refl, ap, ◌∙◌, ⊎_elim, arith}
+use Rattle.std.proofs.lemmas.Bool.{cases_Bool, cond-true, cond-false, cond_both, both_ways, or_parts, and_parts, eqb-true}
 use Rattle.field.specs.Arithmetic.{Ring, CommutativeRing, read}
-use Rattle.field.specs.Laws.{derived, positive, read_code, read_product, product_right, sum_right}
-use Rattle.algebra.specs.Term.{Term, one, same, has}
-use Rattle.algebra.specs.Polynomial.{Polynomial}
+use Rattle.field.specs.Laws.{derived, positive, read_code, sum_right}
+use Rattle.algebra.specs.Term.{Term, same, has}
 use Rattle.algebra.specs.Border.{Row, combination, codes_below, IsRow}
 use Rattle.algebra.specs.Walk.{zeros, add_rows, scale, unit, at_one, all_zero}
 use Rattle.algebra.specs.Clash.{negative_row}

@@ -1,13 +1,13 @@
 -- Weights: a function from terms to codes gives every polynomial a total. Equal polynomials are those with equal totals.
 -- Assumes nothing.
-use Rattle.std.proofs.Common.{◌≡◌, ℕ, zero, suc, ◌<◌, ◌≤◌, Bool, true, false, cond, List, [], ◌∷◌, ◌++◌, length, sym, refl, ap, ◌∙◌, subst, ⊎_elim, arith}
+use Rattle.std.proofs.Common.{◌≡◌, ℕ, zero, suc, ◌<◌, ◌≤◌, Bool, true, false, cond, [], ◌∷◌, ◌++◌, length, sym, refl, ap, ◌∙◌, subst, ⊎_elim, arith}
 use Rattle.std.proofs.lemmas.Bool.{cases_Bool, cond-true, cond-false}
-use Rattle.field.specs.Arithmetic.{Ring, CommutativeRing, read}
-use Rattle.field.specs.Laws.{derived, positive, read_code, read_sum, sum_left}
+use Rattle.field.specs.Arithmetic.{Ring, CommutativeRing}
+use Rattle.field.specs.Laws.{derived, positive, read_code, sum_left}
 use Rattle.algebra.specs.Term.{Term, same}
 use Rattle.algebra.specs.Term as term
-use Rattle.algebra.specs.Polynomial.{Polynomial, coefficient, Equal, negative, difference, multiple, product}
-use Rattle.algebra.proofs.Terms.{same_true, same_refl, apart}
+use Rattle.algebra.specs.Polynomial.{Polynomial, coefficient, Equal, negative, difference, multiple}
+use Rattle.algebra.proofs.Terms.{same_true, same_refl}
 
 -- the weight that is 1 at t and 0 elsewhere
 abbrev pub indicator : Term → Term → ℕ

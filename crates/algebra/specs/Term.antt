@@ -1,5 +1,5 @@
 -- Terms: products of powers of variables. Assumes nothing.
-use Rattle.std.specs.Prelude.{◌≡◌, ℕ, zero, suc, ◌+◌, ◌<◌, Bool, true, false, cond, ◌&&◌, ◌||◌, T, List, [], ◌∷◌, ◌++◌, length, replicate, ◌==◌}
+use Rattle.std.specs.Prelude.{◌≡◌, ℕ, zero, suc, ◌+◌, ◌<◌, Bool, true, false, cond, ◌&&◌, ◌||◌, List, [], ◌∷◌, ◌++◌, length, replicate, ◌==◌}
 use Rattle.std.specs.Str.{bytes_eq}
 
 -- A term is the list of its eight exponents, without a limit here. Variables count from 0: the exponent of variable i stands at place i.

@@ -1,5 +1,5 @@
 -- The theorems about border bases, over any commutative ring on codes. Assumes nothing.
-use Rattle.std.specs.Prelude.{◌≡◌, ℕ, ◌<◌, true, false, List, Some, None}
+use Rattle.std.specs.Prelude.{◌≡◌, ℕ, ◌<◌, true, false, List, None}
 use Rattle.field.specs.Arithmetic.{Ring, CommutativeRing}
 use Rattle.algebra.specs.Term.{Term, has, spelled, Letters}
 use Rattle.algebra.specs.Polynomial.{Polynomial, Equal, Over, sum, difference, multiple}

@@ -1,5 +1,5 @@
 -- The linear maps of the variables on rows, walks, normal forms and cofactors. Assumes nothing.
-use Rattle.std.specs.Prelude.{◌≡◌, ℕ, zero, suc, Bool, true, false, cond, ◌&&◌, List, [], ◌∷◌, ◌++◌, map, ◌==◌}
+use Rattle.std.specs.Prelude.{ℕ, zero, suc, Bool, true, cond, ◌&&◌, List, [], ◌∷◌, ◌++◌, map, ◌==◌}
 use Rattle.field.specs.Arithmetic.{Ring}
 use Rattle.algebra.specs.Term.{Term, times, word, spelled, same, has, place}
 use Rattle.algebra.specs.Polynomial.{Polynomial, multiple, sum}

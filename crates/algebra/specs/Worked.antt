@@ -4,7 +4,6 @@ use Rattle.field.specs.Arithmetic.{Ring, ring}
 use Rattle.field.specs.Supplied.{modulo}
 use Rattle.algebra.specs.Term.{Term, one}
 use Rattle.algebra.specs.Border.{System, Row, border, borders}
-use Rattle.algebra.specs.declared.Entry.{Entry}
 use Rattle.algebra.specs.Clash.{first_clash, commutator, commutator_entries}
 
 abbrev pub three : Ring

@@ -1,5 +1,5 @@
 -- What a judgement that refuses nothing says. Assumes nothing.
-use Rattle.std.proofs.Common.{◌≡◌, ℕ, ◌+◌, ◌-◌, ◌*◌, ◌≤◌, true, false, not, ◌&&◌, eqb, ltb, leb, List, length, None, Option, sym, refl, ap, ◌∙◌, subst}
+use Rattle.std.proofs.Common.{◌≡◌, ℕ, ◌+◌, ◌*◌, ◌≤◌, true, false, not, ◌&&◌, eqb, ltb, leb, List, length, None, Option, sym, refl, ap, ◌∙◌, subst}
 use Rattle.std.proofs.lemmas.Bool.{both_ways, eqb-true, ltb-false, leb-true, and_parts, and_from, eq-eqb}
 use Rattle.algebra.specs.Term.{Term, zero_past, place}
 use Rattle.algebra.specs.Polynomial.{Polynomial}

@@ -2,7 +2,7 @@
 use Rattle.std.proofs.Common.{◌≡◌, ℕ, zero, suc, ◌+◌, ◌<◌, ◌≤◌, true, false, eqb, leb, List, [], ◌∷◌, ◌++◌, length, get_or, sym, refl, ap, subst, zero-add, arith}
 use Rattle.std.proofs.lemmas.Bool.{and_parts, and_from, leb-true, le-leb, eqb-true, eq-eqb, both_ways}
 use Rattle.algebra.specs.Term.{Term, same}
-use Rattle.algebra.specs.Border.{Row, border}
+use Rattle.algebra.specs.Border.{Row}
 use Rattle.algebra.proofs.Terms.{same_true, same_refl}
 use Rattle.row.specs.declared.lead.Lead.{Lead}
 use Rattle.row.specs.declared.lead.Lead.TheVariants.{Inside, OnBorder}

@@ -3,7 +3,7 @@ use Rattle.std.proofs.Common.{◌≡◌, ℕ, zero, suc, ◌+◌, ◌-◌, ◌<�
 use Rattle.std.proofs.lemmas.List.{length-set, take_more_set, map_more, take_all}
 use Rattle.std.proofs.lemmas.Bool.{both_ways, and_parts, and_from, eq-eqb}
 use Rattle.algebra.specs.Term.{Term, place}
-use Rattle.algebra.specs.Border.{Row, border}
+use Rattle.algebra.specs.Border.{Row}
 use Rattle.term.specs.Search.{first_place}
 use Rattle.book.specs.declared.contents.Contents.{Contents}
 use Rattle.book.specs.declared.phase.Phase.{Phase}

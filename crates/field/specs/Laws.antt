@@ -1,8 +1,8 @@
 -- What the laws of a commutative ring on codes give. Assumes nothing.
-use Rattle.std.specs.Prelude.{◌≡◌, ℕ, ◌<◌, ◌≤◌, Bool, true, false, cond, Some, None, Option, ◌≢◌, nat_lt, refl}
-use Rattle.std.proofs.Common.{arith, sym, ap, subst, ◌∙◌, ⊎_elim}
+use Rattle.std.specs.Prelude.{◌≡◌, ℕ, ◌<◌, ◌≤◌, Some, None, ◌≢◌, nat_lt}
+use Rattle.std.proofs.Common.{arith, sym, ap, ◌∙◌, ⊎_elim}
 use Rattle.std.proofs.lemmas.Bool.{lt-ltb, cond-true, cond_both, ltb-true, cases_lt}
-use Rattle.field.specs.Arithmetic.{Arithmetic, Ring, ring, CommutativeRing, Lawful, read}
+use Rattle.field.specs.Arithmetic.{Arithmetic, Ring, CommutativeRing, Lawful, read}
 use Rattle.field.specs.Derived.{Derived, Derivable}
 
 pub read_code : (q a : ℕ) → a < q → read q a ≡ a

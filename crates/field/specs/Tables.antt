@@ -1,10 +1,10 @@
 -- The laws of a field from one test that antt computes over all its codes, pairs and triples. Assumes nothing.
 use Rattle.std.specs.Prelude.{◌≡◌, ℕ, zero, suc, ◌+◌, ◌<◌, ◌≤◌, Bool, true, false, cond, not, T, is_some, Some, None, Option, ◌==◌, nat_eq, nat_le, nat_lt, refl}
-use Rattle.std.proofs.Common.{arith, add-suc, suc-add, subst, ◌∙◌, ⊎_elim}
+use Rattle.std.proofs.Common.{arith, subst, ◌∙◌, ⊎_elim}
 use Rattle.std.proofs.Math.Path.{sym, ap}
 use Rattle.std.proofs.Math.Dec.{leb→le, ltb→lt, eqb→eq}
-use Rattle.std.proofs.lemmas.Bool.{cases_Bool, cases_lt, lt-ltb, le-ltb, cond-true, cond-false, eqb-true}
-use Rattle.field.specs.Arithmetic.{Arithmetic, Lawful, read}
+use Rattle.std.proofs.lemmas.Bool.{cases_Bool, cases_lt, lt-ltb, cond-true, cond-false, eqb-true}
+use Rattle.field.specs.Arithmetic.{Lawful, read}
 use Rattle.field.specs.Supplied.{on_codes, partner}
 use Rattle.field.specs.Laws.{read_code, read_below, read_read}
 

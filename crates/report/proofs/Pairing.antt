@@ -1,5 +1,5 @@
 -- The numbers of a record taken one after another. Assumes nothing.
-use Rattle.std.proofs.Common.{◌≡◌, ℕ, suc, ◌+◌, ◌-◌, List, [], ◌∷◌, ◌++◌, get_or, drop, Some, None, unwrap_or, sym, refl, ap, ◌∙◌, append_assoc, append-nil, arith}
+use Rattle.std.proofs.Common.{◌≡◌, ℕ, suc, List, [], ◌∷◌, ◌++◌, get_or, drop, Some, None, unwrap_or, sym, refl, ap, ◌∙◌, append_assoc, append-nil, arith}
 use Rattle.algebra.specs.Term.{Term}
 use Rattle.algebra.specs.Polynomial.{Polynomial}
 use Rattle.sheet.specs.Numbers.{first, exponents_of}

@@ -5,7 +5,6 @@ use Rattle.book.specs.Ledger.{Ledger}
 use Rattle.run.specs.Calls.{answer, next, finish}
 use Rattle.sheet.specs.declared.fault.SheetFault.{SheetFault}
 use Rattle.sheet.specs.Reading.{State, Seen, next_record, after_record}
-use Rattle.lines.specs.declared.fault.Fault.{Fault}
 use Rattle.lines.specs.declared.fault.Fault.TheVariants.{Sheet}
 use Rattle.lines.specs.Line.{Said, fault, text}
 use Rattle.report.specs.declared.stop.Stop.{Stop}

@@ -1,7 +1,7 @@
 -- Writing entries into slots, and the walk of a row by a term. Assumes nothing.
-use Rattle.std.specs.Prelude.{ℕ, zero, suc, cond, List, [], ◌∷◌, ◌++◌, length, ◌==◌, nat_lt, slice_index_or, slice_set}
+use Rattle.std.specs.Prelude.{ℕ, suc, cond, List, [], ◌∷◌, ◌++◌, length, ◌==◌, nat_lt, slice_index_or, slice_set}
 use Rattle.field.specs.Arithmetic.{Ring}
-use Rattle.algebra.specs.Term.{Term, word, spelled}
+use Rattle.algebra.specs.Term.{Term, spelled}
 use Rattle.algebra.specs.Border.{Row}
 use Rattle.algebra.specs.declared.Entry.{Entry}
 use Rattle.row.specs.declared.lead.Lead.{Lead}

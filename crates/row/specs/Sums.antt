@@ -1,5 +1,5 @@
 -- Row arithmetic in place: a row keeps its length. Assumes nothing.
-use Rattle.std.specs.Prelude.{ℕ, zero, suc, ◌≤◌, List, [], ◌∷◌, slice_index, slice_set}
+use Rattle.std.specs.Prelude.{ℕ, zero, suc, [], ◌∷◌, slice_index, slice_set}
 use Rattle.field.specs.Arithmetic.{Ring}
 use Rattle.algebra.specs.Border.{Row}
 

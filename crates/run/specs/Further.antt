@@ -1,10 +1,9 @@
 -- What a run promises of rule, strike, cofactors and table beside the law over runs. Assumes nothing.
-use Rattle.std.specs.Prelude.{◌≡◌, ℕ, ◌-◌, Bool, true, false, List, [], ◌∷◌, map, get_or, is_ok, Some, None, Ok, Err, Result, ◌==◌, slice_index_or}
+use Rattle.std.specs.Prelude.{◌≡◌, ℕ, ◌-◌, Bool, List, [], ◌∷◌, map, get_or, is_ok, Some, None, Ok, Err, Result, ◌==◌, slice_index_or}
 use Rattle.field.specs.Arithmetic.{Arithmetic}
 use Rattle.algebra.specs.Term.{Term, place}
 use Rattle.algebra.specs.Border.{Row}
 use Rattle.book.specs.declared.refusal.Refusal.{Refusal}
-use Rattle.book.specs.declared.verdict.Verdict.{Verdict}
 use Rattle.book.specs.Judge.{judge_variable}
 use Rattle.book.specs.Ledger.{Ledger, edge}
 use Rattle.run.specs.declared.call.Answer.{Answer}

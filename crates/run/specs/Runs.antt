@@ -1,19 +1,18 @@
 -- The law over runs: what every list of calls on a new book answers and leaves, refused calls included. Assumes nothing.
-use Rattle.std.specs.Prelude.{◌≡◌, ℕ, ◌*◌, Bool, true, false, List, [], ◌∷◌, length, take, is_ok, None, Ok, Err, Result, nat_lt}
+use Rattle.std.specs.Prelude.{◌≡◌, ◌*◌, Bool, true, false, List, [], ◌∷◌, length, take, is_ok, None, Ok, Err, Result, nat_lt}
 use Rattle.field.specs.Arithmetic.{Arithmetic, ring}
 use Rattle.algebra.specs.Polynomial.{Polynomial, Over, difference}
-use Rattle.algebra.specs.Border.{Row, System}
+use Rattle.algebra.specs.Border.{Row}
 use Rattle.algebra.specs.Ideal.{InIdeal}
 use Rattle.algebra.specs.Walk.{normal_form}
 use Rattle.algebra.specs.Theorems.{Independent}
-use Rattle.algebra.specs.declared.Entry.{Entry}
 use Rattle.book.specs.declared.refusal.Refusal.{Refusal}
 use Rattle.book.specs.declared.refusal.Refusal.TheVariants.{EntriesTooShort}
 use Rattle.book.specs.declared.verdict.Verdict.{Verdict}
 use Rattle.book.specs.declared.verdict.Verdict.TheVariants.{Consistent, Clashes}
 use Rattle.book.specs.Judge.{judge_pairs, refuse, degrees}
 use Rattle.book.specs.Ledger.{Ledger, system}
-use Rattle.book.specs.Promise.{VerdictMeans, FormMeans, Accounts}
+use Rattle.book.specs.Promise.{VerdictMeans, Accounts}
 use Rattle.run.specs.declared.call.Answer.{Answer}
 use Rattle.run.specs.declared.call.Answer.TheVariants.{Done, Border, Checked, Formed, Counted}
 use Rattle.run.specs.Calls.{Step, lay, term, close, rule, strike, check, form, cofactor, table, answer, next, finish}

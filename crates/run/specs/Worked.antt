@@ -1,7 +1,7 @@
 -- Worked runs of calls on a new book over the field of order 3. Assumes nothing.
 use Rattle.std.specs.Prelude.{◌≡◌, ℕ, true, false, List, [], ◌∷◌, ◌++◌, map, take, drop, Ok, Err, Result}
 use Rattle.field.specs.Supplied.{modulo}
-use Rattle.algebra.specs.Term.{Term, one}
+use Rattle.algebra.specs.Term.{one}
 use Rattle.algebra.specs.Border.{Row}
 use Rattle.algebra.specs.Worked.{xy, square}
 use Rattle.algebra.specs.declared.Entry.{Entry}

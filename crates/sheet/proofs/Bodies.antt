@@ -1,9 +1,9 @@
 -- How a body's numbers are checked one by one. Assumes nothing.
-use Rattle.std.proofs.Common.{◌≡◌, ℕ, zero, suc, ◌+◌, ◌-◌, ◌<◌, ◌≤◌, true, false, List, [], ◌∷◌, length, drop, Ok, Err, Result, sym, refl, ap, ◌∙◌, arith}
+use Rattle.std.proofs.Common.{◌≡◌, ℕ, zero, suc, ◌+◌, ◌<◌, true, false, List, [], ◌∷◌, length, drop, Err, Result, sym, refl, ap, ◌∙◌, arith}
 use Rattle.std.proofs.lemmas.Bool.{cond-true, cond-false}
 use Rattle.sheet.specs.declared.fault.NumberFault.{NumberFault}
 use Rattle.sheet.specs.declared.fault.RecordFault.{RecordFault}
-use Rattle.sheet.specs.declared.fault.RecordFault.TheVariants.{Number, WrongBody}
+use Rattle.sheet.specs.declared.fault.RecordFault.TheVariants.{WrongBody}
 use Rattle.sheet.specs.declared.kind.Kind.{Kind}
 use Rattle.sheet.specs.Fault.{in_record, next}
 use Rattle.sheet.specs.Body.{limit_at, is_full, whole_after, number_at, check_numbers}

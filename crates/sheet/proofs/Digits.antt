@@ -1,9 +1,8 @@
 -- How a number's groups of seven bits are taken apart and put together. Assumes nothing.
-use Rattle.std.proofs.Common.{◌≡◌, ℕ, zero, suc, ◌+◌, ◌-◌, ◌*◌, ◌/◌, ◌%◌, ◌<◌, ◌≤◌, Bool, true, false, cond, eqb, ltb, leb, List, [], ◌∷◌, ◌++◌, length, get_or, take, drop, Ok, Err, Result, sym, refl, ap, ◌∙◌, subst, ⊎_elim, arith}
+use Rattle.std.proofs.Common.{◌≡◌, ℕ, suc, ◌+◌, ◌-◌, ◌*◌, ◌/◌, ◌%◌, ◌<◌, ◌≤◌, eqb, ltb, leb, List, [], ◌∷◌, ◌++◌, length, get_or, take, drop, Ok, Err, sym, refl, ap, ◌∙◌, ⊎_elim, arith}
 use Rattle.std.proofs.lemmas.Bool.{ltb-true, ltb-false, leb-true, eqb-false, lt-ltb, le-ltb, le-leb, ne_eqb, cases_lt, cond-true, cond-false, cond_both}
 use Rattle.std.proofs.lemmas.List.{take_rest}
-use Rattle.sheet.specs.declared.number.NumberCause.{NumberCause}
-use Rattle.sheet.specs.declared.number.NumberCause.TheVariants.{Unfinished, NotShortest, TooLarge}
+use Rattle.sheet.specs.declared.number.NumberCause.TheVariants.{NotShortest, TooLarge}
 use Rattle.sheet.specs.Number.{number_bytes, Reading, within, ending, third, second, read_number, Taken, ReadAsWritten}
 
 -- a first byte with the high bit set goes on

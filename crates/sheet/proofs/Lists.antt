@@ -1,9 +1,9 @@
 -- The numbers of a body as a list. Assumes nothing.
-use Rattle.std.proofs.Common.{◌≡◌, ℕ, zero, suc, ◌+◌, ◌-◌, ◌<◌, ◌≤◌, List, [], ◌∷◌, ◌++◌, length, get_or, take, drop, Some, None, Ok, Err, Option, Result, sym, refl, ap, ◌∙◌, subst, arith, length-drop, take-append-drop}
-use Rattle.std.proofs.lemmas.List.{length-take-le, get_or-drop, drop_all}
+use Rattle.std.proofs.Common.{◌≡◌, ℕ, zero, suc, ◌+◌, ◌<◌, ◌≤◌, List, [], ◌∷◌, ◌++◌, length, drop, Ok, Err, sym, refl, ap, ◌∙◌, subst, arith, length-drop, take-append-drop}
+use Rattle.std.proofs.lemmas.List.{length-take-le, get_or-drop}
 use Rattle.sheet.specs.declared.number.NumberCause.{NumberCause}
 use Rattle.sheet.specs.Number.{Bytes, number_bytes, Reading, read_number, Taken, ReadAsWritten}
-use Rattle.sheet.specs.Numbers.{listed, numbers_in, numbers_of, first}
+use Rattle.sheet.specs.Numbers.{listed, numbers_in, numbers_of}
 use Rattle.sheet.proofs.Digits.{number_back, reads_back, SomeBytes, number_some}
 
 pub bytes_drop : (k : ℕ) (bs : List ℕ) → Bytes bs → Bytes (drop k bs)

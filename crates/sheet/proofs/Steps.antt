@@ -1,16 +1,15 @@
 -- One step of a reader. Assumes nothing.
-use Rattle.std.proofs.Common.{◌≡◌, ℕ, ◌+◌, ◌-◌, ◌<◌, ◌≤◌, min, cond, leb, List, [], ◌∷◌, length, drop, Some, None, Ok, Err, Option, Result, sym, refl, ap, ◌∙◌, arith}
-use Rattle.std.proofs.lemmas.Bool.{cond-true, cond-false, lt-leb}
+use Rattle.std.proofs.Common.{◌≡◌, ℕ, ◌+◌, ◌<◌, min, List, [], ◌∷◌, length, drop, Some, Ok, Err, Result, sym, refl, ap, ◌∙◌, arith}
+use Rattle.std.proofs.lemmas.Bool.{cond-false, lt-leb}
 use Rattle.sheet.specs.declared.fault.RecordFault.{RecordFault}
 use Rattle.sheet.specs.declared.fault.RecordFault.TheVariants.{WrongBody}
-use Rattle.sheet.specs.declared.fault.SheetFault.{SheetFault}
 use Rattle.sheet.specs.declared.kind.Kind.{Kind}
 use Rattle.sheet.specs.declared.kind.Kind.TheVariants.{Term, Close, Rule, Check, Question, Strike}
 use Rattle.sheet.specs.declared.record.Extent.{Extent}
 use Rattle.sheet.specs.Fault.{in_sheet, next}
 use Rattle.sheet.specs.Body.{check_body}
 use Rattle.sheet.specs.Record.{read_record, body_of}
-use Rattle.sheet.specs.Reading.{State, Seen, held, next_count, record_here, as_seen, next_record, past, after_record}
+use Rattle.sheet.specs.Reading.{State, held, record_here, as_seen, next_record, past, after_record}
 use Rattle.sheet.proofs.Heads.{record_parts}
 
 -- a body over of a kind that has none is refused

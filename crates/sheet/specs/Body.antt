@@ -1,6 +1,5 @@
 -- What a record's body holds: which numbers, how many, and how large each may be. Assumes nothing.
 use Rattle.std.specs.Prelude.{ℕ, zero, suc, ◌+◌, ◌-◌, ◌*◌, ◌%◌, Bool, true, false, cond, List, [], ◌∷◌, length, drop, Some, None, Ok, Err, Option, Result, ◌==◌, nat_le, nat_lt}
-use Rattle.sheet.specs.declared.number.NumberCause.{NumberCause}
 use Rattle.sheet.specs.declared.number.NumberCause.TheVariants.{Unfinished}
 use Rattle.sheet.specs.declared.fault.NumberFault.{NumberFault}
 use Rattle.sheet.specs.declared.fault.RecordFault.{RecordFault}

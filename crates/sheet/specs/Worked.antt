@@ -1,5 +1,5 @@
 -- Worked examples of numbers in bytes. Assumes nothing.
-use Rattle.std.specs.Prelude.{◌≡◌, ℕ, List, [], ◌∷◌, map, Ok, Err}
+use Rattle.std.specs.Prelude.{◌≡◌, ℕ, [], ◌∷◌, map, Ok, Err}
 use Rattle.sheet.specs.Number.{Reading, number_bytes, read_number}
 use Rattle.sheet.specs.Fault.{cause_number}
 

@@ -1,18 +1,17 @@
 -- A record that is written reads back. Assumes nothing.
-use Rattle.std.proofs.Common.{◌≡◌, ℕ, zero, suc, ◌+◌, ◌-◌, ◌<◌, ◌≤◌, Bool, true, false, cond, ◌&&◌, eqb, ltb, leb, List, [], ◌∷◌, ◌++◌, length, take, drop, Some, Ok, Err, Result, sym, refl, ap, ◌∙◌, subst, append_assoc, arith, length-append}
+use Rattle.std.proofs.Common.{◌≡◌, ℕ, ◌+◌, ◌-◌, ◌≤◌, true, eqb, ltb, leb, List, [], ◌∷◌, ◌++◌, length, take, drop, Ok, Result, sym, refl, ap, ◌∙◌, subst, append_assoc, arith, length-append}
 use Rattle.std.proofs.lemmas.List.{drop_at, take_at}
 use Rattle.std.proofs.lemmas.Bool.{leb-true, le-leb, cond-true, cond_both, and_parts}
-use Rattle.sheet.specs.declared.fault.NumberFault.{NumberFault}
 use Rattle.sheet.specs.declared.fault.RecordFault.{RecordFault}
 use Rattle.sheet.specs.declared.kind.Kind.{Kind}
 use Rattle.sheet.specs.declared.kind.Kind.TheVariants.{Term, Close, Rule, Check, Question, Strike}
 use Rattle.sheet.specs.declared.record.Extent.{Extent}
-use Rattle.sheet.specs.Fault.{in_record, next}
-use Rattle.sheet.specs.Number.{number_bytes, read_number}
+use Rattle.sheet.specs.Fault.{next}
+use Rattle.sheet.specs.Number.{number_bytes}
 use Rattle.sheet.specs.Numbers.{numbers_of}
 use Rattle.sheet.specs.Body.{total, limit_at, whole_after, number_at, at_place, check_numbers, check_body}
-use Rattle.sheet.specs.Record.{inside, read_head, read_record, body_of}
-use Rattle.sheet.proofs.Bodies.{onward, number_here}
+use Rattle.sheet.specs.Record.{read_head, body_of}
+use Rattle.sheet.proofs.Bodies.{number_here}
 use Rattle.sheet.proofs.Digits.{reads_back, number_some, SomeBytes}
 use Rattle.sheet.proofs.Heads.{kind_here, body_inside, next_ok}
 use Rattle.sheet.proofs.Lists.{numbers_more}

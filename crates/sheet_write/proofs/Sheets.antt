@@ -1,21 +1,19 @@
 -- A sheet that is written reads back, record by record. Assumes nothing.
-use Rattle.std.proofs.Common.{◌≡◌, ℕ, zero, suc, ◌+◌, ◌-◌, ◌<◌, ◌≤◌, min, true, false, cond, ltb, leb, List, [], ◌∷◌, ◌++◌, length, take, drop, Some, None, Ok, Err, Option, Result, sym, refl, ap, ◌∙◌, subst, append_assoc, arith, length-append, length-drop}
-use Rattle.std.proofs.lemmas.List.{drop_at, drop-drop, drop_all}
+use Rattle.std.proofs.Common.{◌≡◌, ℕ, zero, suc, ◌+◌, ◌<◌, ◌≤◌, List, [], ◌∷◌, ◌++◌, length, drop, Some, Ok, Option, Result, sym, refl, ap, ◌∙◌, subst, append_assoc, arith, length-append}
+use Rattle.std.proofs.lemmas.List.{drop_at, drop-drop}
 use Rattle.std.proofs.lemmas.Bool.{le-leb, lt-leb, le-ltb, cond-true, cond-false}
 use Rattle.sheet.specs.declared.fault.RecordFault.{RecordFault}
 use Rattle.sheet.specs.declared.fault.SheetFault.{SheetFault}
 use Rattle.sheet.specs.declared.record.Extent.{Extent}
 use Rattle.sheet.specs.Fault.{in_record, in_sheet, next}
 use Rattle.sheet.specs.Number.{number_bytes}
-use Rattle.sheet.specs.Numbers.{numbers_of}
-use Rattle.sheet.specs.Body.{kind_number, number_at}
-use Rattle.sheet.specs.Record.{read_record, body_of}
+use Rattle.sheet.specs.Body.{number_at}
 use Rattle.sheet.specs.Reading.{State, Seen, opening, open_sheet, heading, heading_number, after_number, begun, next_count, record_here, as_seen, next_record, past, after_record}
 use Rattle.sheet.proofs.Heads.{next_ok}
 use Rattle.sheet_write.specs.Writing.{heading_bytes, flat, accepted, record_bytes, write_record}
 use Rattle.sheet_write.specs.Laws.{ReadsAs}
 use Rattle.sheet_write.specs.Sheet.{Entry, Sheet, write_records, sheet_bytes, write_sheet, entry, more, read_all, after_heading, read_sheet, HeadingFits}
-use Rattle.sheet_write.proofs.Accepts.{Accepted, accepted_parts, kind_is, kind_low}
+use Rattle.sheet_write.proofs.Accepts.{accepted_parts, kind_is, kind_low}
 use Rattle.sheet_write.proofs.Readbacks.{record_reads_back, number_first, bytes_some}
 
 -- a record takes a byte at least

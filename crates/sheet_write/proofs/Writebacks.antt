@@ -1,21 +1,20 @@
 -- A record that was read is written to the same bytes. Assumes nothing.
-use Rattle.std.proofs.Common.{◌≡◌, ℕ, zero, suc, ◌+◌, ◌-◌, ◌<◌, ◌≤◌, Bool, true, false, cond, leb, List, [], ◌∷◌, ◌++◌, length, take, drop, IfOk as made, Some, Ok, Err, Option, Result, sym, refl, ap, ◌∙◌, subst, append_assoc, arith, length-drop, take-append-drop}
-use Rattle.std.proofs.lemmas.List.{length-take-le, drop-drop, drop-take, take-take}
+use Rattle.std.proofs.Common.{◌≡◌, ℕ, zero, suc, ◌+◌, ◌-◌, ◌≤◌, Bool, true, false, cond, leb, List, [], ◌∷◌, ◌++◌, length, take, drop, IfOk as made, Some, Ok, Err, Result, sym, refl, ap, ◌∙◌, subst, append_assoc, arith, length-drop, take-append-drop}
+use Rattle.std.proofs.lemmas.List.{length-take-le, drop-take, take-take}
 use Rattle.std.proofs.lemmas.Bool.{leb-true, le-leb, and_from}
-use Rattle.sheet.specs.declared.fault.NumberFault.{NumberFault}
 use Rattle.sheet.specs.declared.fault.RecordFault.{RecordFault}
 use Rattle.sheet.specs.declared.kind.Kind.{Kind}
 use Rattle.sheet.specs.declared.record.Extent.{Extent}
 use Rattle.sheet.specs.declared.fault.SheetFault.{SheetFault}
 use Rattle.sheet.specs.Fault.{in_record, in_sheet, next}
-use Rattle.sheet.specs.Number.{Bytes, number_bytes, Reading, read_number, Taken}
+use Rattle.sheet.specs.Number.{Bytes, number_bytes, Reading, read_number}
 use Rattle.sheet.specs.Numbers.{listed, numbers_in, numbers_of}
-use Rattle.sheet.specs.Body.{kind_of, kind_number, total, limit_at, is_full, whole_after, number_at, at_place, check_numbers, check_body}
+use Rattle.sheet.specs.Body.{kind_of, kind_number, total, limit_at, is_full, whole_after, number_at, at_place, check_numbers}
 use Rattle.sheet.specs.Record.{known, inside, read_head, read_record, body_of}
 use Rattle.sheet.proofs.Bodies.{onward}
 use Rattle.sheet.proofs.Heads.{next_ok, record_parts}
 use Rattle.sheet.proofs.Lists.{bytes_drop, taken_reads, taken_from}
-use Rattle.sheet_write.specs.Writing.{flat, allowed, accepted, record_bytes, write_record}
+use Rattle.sheet_write.specs.Writing.{flat, allowed, record_bytes}
 use Rattle.sheet_write.specs.Laws.{WritesBack}
 use Rattle.sheet_write.proofs.Accepts.{Accepted, accepted_from, taken, known_kind, kind_is, kind_back}
 use Rattle.sheet_write.proofs.Counts.{Counted, right_from_counted}

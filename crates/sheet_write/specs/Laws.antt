@@ -1,6 +1,5 @@
 -- What is written reads back, and what was read is written to the same bytes. Assumes nothing.
-use Rattle.std.specs.Prelude.{◌≡◌, ℕ, ◌≤◌, List, ◌++◌, length, take, Some, Ok, Result}
-use Rattle.sheet.specs.declared.fault.RecordFault.{RecordFault}
+use Rattle.std.specs.Prelude.{◌≡◌, ℕ, ◌≤◌, List, ◌++◌, length, take, Some, Ok}
 use Rattle.sheet.specs.declared.record.Extent.{Extent}
 use Rattle.sheet.specs.Number.{Bytes, number_bytes, read_number}
 use Rattle.sheet.specs.Numbers.{numbers_of}

@@ -1,5 +1,5 @@
 -- What a line of input asks for: a kind of field, a space, and a number in decimal digits. Assumes nothing.
-use Rattle.std.specs.Prelude.{ℕ, ◌+◌, ◌-◌, ◌*◌, min, Bool, true, false, cond, ◌&&◌, List, [], ◌∷◌, Some, None, codes, Option, ◌==◌, nat_le}
+use Rattle.std.specs.Prelude.{ℕ, ◌+◌, ◌-◌, ◌*◌, min, Bool, cond, ◌&&◌, List, [], ◌∷◌, Some, None, codes, Option, ◌==◌, nat_le}
 use Rattle.std.specs.Str.{bytes_eq}
 use Rattle.tables.specs.declared.request.Request.{Request}
 use Rattle.tables.specs.declared.request.Request.TheVariants.{PrimeField, BinaryField, UnknownKind, NoPair}

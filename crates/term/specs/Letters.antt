@@ -1,5 +1,5 @@
 -- The first variable of a term, and a term times a variable within eight bytes. Assumes nothing.
-use Rattle.std.specs.Prelude.{ℕ, zero, suc, ◌+◌, min, List, [], ◌∷◌, Some, None, Option, slice_index, slice_set}
+use Rattle.std.specs.Prelude.{ℕ, zero, suc, ◌+◌, min, [], ◌∷◌, Some, None, Option, slice_index, slice_set}
 use Rattle.algebra.specs.Term.{Term}
 
 abbrev pub shifted : ℕ → Option (ℕ × Term) → Option (ℕ × Term)

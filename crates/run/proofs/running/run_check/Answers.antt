@@ -1,4 +1,4 @@
-use Rattle.std.proofs.Common.{◌-◌, vec_items, ◌∙◌}
+use Rattle.std.proofs.Common.{vec_items, ◌∙◌}
 use Rattle.std.proofs.lemmas.List.{with_items_is}
 use Rattle.field.specs.Arithmetic.{ring}
 use Rattle.algebra.specs.Clash.{first_clash}

@@ -1,4 +1,4 @@
-use Rattle.std.proofs.Common.{ℕ, ◌-◌, length}
+use Rattle.std.proofs.Common.{ℕ, length}
 use Rattle.field.specs.Arithmetic.{ring}
 use Rattle.book.specs.Judge.{judge_close}
 use Rattle.book.specs.Ledger.{system, edge}

@@ -1,4 +1,4 @@
-use Rattle.std.proofs.Common.{ℕ, ◌-◌, length, vec_items, refl, ◌∙◌}
+use Rattle.std.proofs.Common.{ℕ, length, vec_items, refl, ◌∙◌}
 use Rattle.std.proofs.lemmas.List.{with_items_is}
 use Rattle.field.specs.Arithmetic.{ring}
 use Rattle.algebra.specs.Walk.{normal_form, cofactors, all_zero}

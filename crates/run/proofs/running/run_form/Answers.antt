@@ -1,4 +1,4 @@
-use Rattle.std.proofs.Common.{◌-◌, vec_items, refl, ap, ◌∙◌}
+use Rattle.std.proofs.Common.{vec_items, refl, ap, ◌∙◌}
 use Rattle.std.proofs.lemmas.List.{with_items_is}
 use Rattle.field.specs.Arithmetic.{ring}
 use Rattle.algebra.specs.Walk.{normal_form, all_zero}

@@ -1,11 +1,11 @@
-use Rattle.std.proofs.Common.{◌-◌, Some, vec_items, ◌∙◌}
+use Rattle.std.proofs.Common.{Some, vec_items, ◌∙◌}
 use Rattle.field.specs.Arithmetic.{ring}
 use Rattle.book.specs.Judge.{judge_rule, granted, on_grant}
 use Rattle.book.specs.Ledger.{system}
 use Rattle.book.specs.Kept.{ledger}
 use Rattle.book.specs.Effects.{kept_row, with_row}
 use Rattle.run.specs.declared.call.Answer.TheVariants.{Done}
-use Rattle.run.specs.Calls.{term, rule}
+use Rattle.run.specs.Calls.{rule}
 use Rattle.run.proofs.Renaming.{renamed_is, on_grant_same}
 use Rattle.run.proofs.running.run_rule.Goals as goal
 

@@ -1,4 +1,3 @@
-use Rattle.std.proofs.Common.{◌-◌}
 use Rattle.field.specs.Arithmetic.{ring}
 use Rattle.book.specs.Judge.{judge_strike}
 use Rattle.book.specs.Ledger.{system}

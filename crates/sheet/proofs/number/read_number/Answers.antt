@@ -1,5 +1,5 @@
 use Rattle.std.proofs.Common.{◌≡◌, ℕ, ◌<◌, get_or, sym, ◌∙◌, subst, arith}
-use Rattle.sheet.specs.Number.{Reading, ReadAsWritten, read_number}
+use Rattle.sheet.specs.Number.{ReadAsWritten, read_number}
 use Rattle.sheet.proofs.Digits.{goes_on, number_back}
 use Rattle.sheet.proofs.number.read_number.Goals as goal
 

@@ -1,4 +1,4 @@
-use Rattle.std.proofs.Common.{◌≡◌, ◌+◌, ◌≤◌, length, drop, ap, ◌∙◌, arith, length-drop}
+use Rattle.std.proofs.Common.{length, ap, ◌∙◌, arith, length-drop}
 use Rattle.sheet.specs.Fault.{in_record}
 use Rattle.sheet.specs.Body.{number_at}
 use Rattle.sheet.proofs.reading.heading_at.Goals as goal

@@ -1,8 +1,8 @@
-use Rattle.std.proofs.Common.{◌≡◌, suc, ◌+◌, ◌-◌, ◌<◌, eqb, length, take, drop, Ok, Err, sym, ap, ◌∙◌, arith, length-drop}
+use Rattle.std.proofs.Common.{◌≡◌, suc, ◌+◌, ◌-◌, ◌<◌, length, take, drop, Ok, Err, sym, ap, ◌∙◌, arith, length-drop}
 use Rattle.std.proofs.lemmas.List.{take_rest}
 use Rattle.std.proofs.lemmas.Result.{err_from_is_err_and}
 use Rattle.std.proofs.lemmas.Bool.{eqb-false}
-use Rattle.sheet.specs.Body.{check_numbers, whole_after, limit_at, number_at}
+use Rattle.sheet.specs.Body.{check_numbers, number_at}
 use Rattle.sheet.proofs.Bodies.{full_here, number_here}
 use Rattle.sheet.proofs.record.check_body.Goals as goal
 

@@ -1,5 +1,5 @@
 use Rattle.std.proofs.Common.{◌≡◌, ◌+◌, ◌-◌, ◌≤◌, length}
-use Rattle.sheet.specs.Body.{total, check_numbers, check_body}
+use Rattle.sheet.specs.Body.{check_numbers, check_body}
 use Rattle.sheet.proofs.record.check_body.Given as goal
 
 abbrev pub invariant-loop-rest : goal.invariant-loop-rest

@@ -1,4 +1,4 @@
-use Rattle.std.proofs.Common.{◌≡◌, Ok, Err, sym, ap, ◌∙◌, arith}
+use Rattle.std.proofs.Common.{Ok, ap, ◌∙◌}
 use Rattle.std.specs.Str.{bytes_eq}
 use Rattle.sheet_write.specs.Writing.{read_again}
 use Rattle.sheet_write.proofs.Sames.{same_self, no_fault, kind_same, ends_same, numbers_same}

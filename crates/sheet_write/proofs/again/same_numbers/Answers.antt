@@ -1,4 +1,4 @@
-use Rattle.std.proofs.Common.{◌≡◌, sym, ◌∙◌}
+use Rattle.std.proofs.Common.{sym, ◌∙◌}
 use Rattle.sheet.specs.Numbers.{left}
 use Rattle.sheet_write.proofs.Sames.{same_more, same_not, same_none, same_over, same_end}
 use Rattle.sheet_write.proofs.again.same_numbers.Goals as goal

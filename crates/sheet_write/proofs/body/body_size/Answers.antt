@@ -1,6 +1,5 @@
-use Rattle.std.proofs.Common.{◌≡◌, ◌+◌, ◌<◌, ◌≤◌, length, get_or, sym, ap, ◌∙◌, arith}
+use Rattle.std.proofs.Common.{◌+◌, ◌<◌, ◌≤◌, length, get_or, sym, ap, ◌∙◌, arith}
 use Rattle.sheet.specs.Body.{limit_at}
-use Rattle.sheet_write.specs.Writing.{flat}
 use Rattle.sheet_write.proofs.Flats.{flat_front, more_length, allowed_more, allowed_not, size_none, size_past, size_some, flat_all, allowed_all}
 use Rattle.sheet_write.proofs.body.body_size.Goals as goal
 

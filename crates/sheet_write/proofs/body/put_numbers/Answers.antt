@@ -1,4 +1,4 @@
-use Rattle.std.proofs.Common.{◌≡◌, ◌+◌, ◌≤◌, ◌++◌, length, get_or, take, sym, ap, ◌∙◌, arith}
+use Rattle.std.proofs.Common.{◌+◌, length, get_or, take, sym, ap, ◌∙◌, arith}
 use Rattle.sheet.specs.Number.{number_bytes}
 use Rattle.sheet_write.specs.Writing.{flat, pasted}
 use Rattle.sheet_write.proofs.Flats.{flat_more, flat_front, more_length, flat_all}

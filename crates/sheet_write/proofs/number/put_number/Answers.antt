@@ -1,5 +1,4 @@
-use Rattle.std.proofs.Common.{◌≡◌, ℕ, suc, ◌+◌, ◌/◌, ◌%◌, ◌≤◌, List, [], ◌∷◌, length, set, sym, ap, ◌∙◌, add-one, arith}
-use Rattle.sheet.specs.Number.{number_bytes}
+use Rattle.std.proofs.Common.{◌≡◌, ℕ, suc, ◌+◌, ◌/◌, ◌%◌, List, [], ◌∷◌, length, set, sym, ap, ◌∙◌, add-one, arith}
 use Rattle.sheet.proofs.Digits.{one_byte, two_bytes, three_bytes}
 use Rattle.sheet_write.specs.Writing.{pasted}
 use Rattle.sheet_write.proofs.Pastes.{pasted_sets}

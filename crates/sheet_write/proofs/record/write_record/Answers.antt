@@ -1,4 +1,4 @@
-use Rattle.std.proofs.Common.{◌≡◌, ◌+◌, ◌≤◌, ◌++◌, length, drop, Ok, sym, ap, ◌∙◌, arith, length-append}
+use Rattle.std.proofs.Common.{◌≤◌, ◌++◌, length, drop, Ok, sym, ap, ◌∙◌, arith, length-append}
 use Rattle.sheet.specs.Number.{number_bytes}
 use Rattle.sheet_write.specs.Writing.{flat, answer, held, record_bytes}
 use Rattle.sheet_write.proofs.Pastes.{put_three, written_fits, written_is}

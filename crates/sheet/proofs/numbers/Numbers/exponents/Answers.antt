@@ -1,4 +1,4 @@
-use Rattle.std.proofs.Common.{◌≡◌, ◌<◌, min, ap, ◌∙◌, arith}
+use Rattle.std.proofs.Common.{min, ap, ◌∙◌, arith}
 use Rattle.sheet.specs.Numbers.{left}
 use Rattle.sheet.proofs.Copies.{out_at, drop_one, exponent_step}
 use Rattle.sheet.proofs.numbers.Numbers.exponents.Goals as goal

@@ -1,4 +1,4 @@
-use Rattle.std.proofs.Common.{◌≡◌, ℕ, ◌*◌, ◌^◌, sym, ap, ◌∙◌}
+use Rattle.std.proofs.Common.{◌≡◌, ℕ, ap, ◌∙◌}
 use lib.Bits.{bit_xor}
 use Rattle.field.specs.Arithmetic.{read}
 use Rattle.field.specs.Supplied.{binary}
