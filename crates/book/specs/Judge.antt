@@ -104,13 +104,10 @@ abbrev pub judge_cofactors : ℕ → Ledger → Polynomial → Row → List Entr
 judge_cofactors q L p row slots =
     refuse_phase L Cofactors (judge_pairs q L p (length row) (refuse (nat_lt (length slots) (length L.terms * degrees p)) EntriesTooShort None))
 
--- the causes of table but the phase
-abbrev pub judge_variable : Ledger → ℕ → Row → Option Refusal
-judge_variable L i t =
-    refuse (not (length t == length L.terms * length L.terms)) WrongLength (refuse (not (nat_le 1 i && nat_le i L.variables)) NoSuchVariable None)
-
 abbrev pub judge_table : Ledger → ℕ → Row → Option Refusal
-judge_table L i t = refuse_phase L Table (judge_variable L i t)
+judge_table L i t =
+    refuse_phase L Table
+    (refuse (not (length t == length L.terms * length L.terms)) WrongLength (refuse (not (nat_le 1 i && nat_le i L.variables)) NoSuchVariable None))
 
 -- the answer of a call: its value where nothing refuses it
 abbrev pub granted : {V : Type 0} → Option Refusal → V → Result V Refusal

@@ -19,7 +19,7 @@ use Rattle.book.specs.declared.phase.Event.TheVariants.{AddTerm, Close, GiveRule
 use Rattle.book.specs.declared.refusal.Refusal.{Refusal}
 use Rattle.book.specs.declared.refusal.Refusal.TheVariants.{WrongPhase, VariablesOutOfRange, ExponentPastVariables, TermPresent, TermNotJoined, NoTerms, NotOnBorder, WrongLength, CodeOutOfRange, ZeroLeadingCode, EntriesTooShort}
 use Rattle.book.specs.Phases.{allowed}
-use Rattle.book.specs.Judge.{judge_border, judge_pairs, judge_variable, joins, missing, unfit, refuse, degrees, granted, on_grant}
+use Rattle.book.specs.Judge.{judge_border, judge_pairs, joins, missing, unfit, refuse, degrees, granted, on_grant}
 use Rattle.book.specs.Ledger.{Ledger, new_ledger, edge, system}
 use Rattle.book.specs.Effects.{phase_of, verdict, kept_row, yes_no}
 use Rattle.book.specs.Kept.{terms_fit, is_closed}
@@ -30,7 +30,7 @@ use Rattle.book.proofs.Meaning.{over_from, verdict_means, form_means, cofactors_
 use Rattle.run.proofs.Scaling.{place_bound, all_fit, row_back}
 use Rattle.run.specs.Calls.{Step, lay, term, close, rule, strike, check, form, cofactor, table, judge, value, changed, finished, answer, next, finish}
 use Rattle.run.specs.Runs.{stands, stands_after, verdict_stands, GrantedExactly, FormTells, Means, Meaning, RunLaw, run}
-use Rattle.run.specs.Further.{TableGrantedExactly, Tells, Telling, RunTells}
+use Rattle.run.specs.Further.{judge_variable, TableGrantedExactly, Tells, Telling, RunTells}
 
 abbrev is_sound : Phase → Bool
 is_sound Open = false

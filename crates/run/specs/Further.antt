@@ -1,10 +1,11 @@
 -- What a run promises of rule, strike, cofactors and table beside the law over runs. Assumes nothing.
-use Rattle.std.specs.Prelude.{◌≡◌, ℕ, ◌-◌, Bool, List, [], ◌∷◌, map, get_or, is_ok, Some, None, Ok, Err, Result, ◌==◌, slice_index_or}
+use Rattle.std.specs.Prelude.{◌≡◌, ℕ, ◌-◌, ◌*◌, Bool, not, ◌&&◌, List, [], ◌∷◌, length, map, is_ok, Some, None, Option, Ok, Err, Result, ◌==◌, nat_le, slice_index_or}
 use Rattle.field.specs.Arithmetic.{Arithmetic}
 use Rattle.algebra.specs.Term.{Term, place}
 use Rattle.algebra.specs.Border.{Row}
 use Rattle.book.specs.declared.refusal.Refusal.{Refusal}
-use Rattle.book.specs.Judge.{judge_variable}
+use Rattle.book.specs.declared.refusal.Refusal.TheVariants.{WrongLength, NoSuchVariable}
+use Rattle.book.specs.Judge.{refuse}
 use Rattle.book.specs.Ledger.{Ledger, edge}
 use Rattle.run.specs.declared.call.Answer.{Answer}
 use Rattle.run.specs.declared.call.Answer.TheVariants.{Done, Border, Checked, Formed, Counted}
@@ -14,7 +15,7 @@ use Rattle.run.specs.Runs.{Ran, FormTells, stands}
 -- A rule k·e = Σ rⱼ·tⱼ is kept at the place of e, as a row that k times gives back the row r.
 pub record RuleTells (A : Arithmetic) (L : Ledger) (e : Term) (k : ℕ) (r : Row) : Type 0 where
   pub kept : Row
-  pub stored : get_or (changed A L (rule e k r)).rows (place e (edge L) - 1) None ≡ Some kept
+  pub stored : slice_index_or (changed A L (rule e k r)).rows (place e (edge L) - 1) None ≡ Some kept
   pub gives_back : map (A.product k) kept ≡ r
 
 -- What a granted call says beside its meaning: a rule is kept, a strike leaves none, and the answer of cofactors, 1 for yes, tells what that of form tells.
@@ -36,6 +37,11 @@ Tells A L (table i rows) a = Unit {0}
 abbrev pub Telling : Arithmetic → Ledger → Step → Result Answer Refusal → Type 0
 Telling A L s (Ok a) = Tells A L s a
 Telling A L s (Err r) = Unit {0}
+
+-- the causes of table but the phase
+abbrev pub judge_variable : Ledger → ℕ → Row → Option Refusal
+judge_variable L i t =
+    refuse (not (length t == length L.terms * length L.terms)) WrongLength (refuse (not (nat_le 1 i && nat_le i L.variables)) NoSuchVariable None)
 
 -- A table call whose arguments nothing but the phase would refuse is granted exactly where the last verdict stands.
 abbrev pub TableGrantedExactly : Bool → Ledger → Step → Result Answer Refusal → Type 0
