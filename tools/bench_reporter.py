@@ -1,7 +1,7 @@
 #!/usr/bin/env python3
 """How long `reporter` takes for full sheets, and what a question costs. A measurement, not a test.
 
-Run `rt check reporter` first: it builds target/bin/reporter. Each load is a sheet of nearly 65,535 bytes over the field of order 31
+Run `rt run` in crates/reporter first: it builds out/reporter there. Each load is a sheet of nearly 65,535 bytes over the field of order 31
 with 32 terms, filled up with one kind of question; the program is timed whole, from its start to its end, as the best of several runs.
 """
 import pathlib
@@ -54,9 +54,9 @@ LOADS = {
 
 
 def main():
-    program = pathlib.Path(__file__).resolve().parent.parent / "target" / "bin" / "reporter"
+    program = pathlib.Path(__file__).resolve().parent.parent / "crates" / "reporter" / "out" / "reporter"
     if not program.exists():
-        sys.exit("there is no target/bin/reporter: run `rt check reporter` first")
+        sys.exit("there is no crates/reporter/out/reporter: run `rt run` in crates/reporter first")
     print(f"{'load':26} {'bytes':>7} {'questions':>9} {'seconds':>8} {'µs each':>8}")
     for name, question in LOADS.items():
         sheet, count = filled(question)

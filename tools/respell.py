@@ -12,9 +12,8 @@ import re
 import sys
 
 ROOT = pathlib.Path(sys.argv[1] if len(sys.argv) > 1 else '.')
-# what a name is called where its plain respelling would fall together with another name
-OTHERWISE = {
-}
+# aliases of functions that the kit's script gave a capital
+ALIASES = {'Line-of': 'line_of', 'Ending-of': 'ending_of', 'Joins-set': 'joins_set'}
 DEFINED = re.compile(
     r"^\s*(?:(?:abbrev|unfoldable|pub|record|data)\s+)*([^\s(){}\[\];,.\"«»:]+-[^\s(){}\[\];,.\"«»:]+)\s*(?::|\(|\{|=)")
 TOKEN = re.compile(r"[^\s(){}\[\];,.\"«»`]+")
@@ -51,9 +50,8 @@ def own_names():
                     defined[found[1]] += 1
             for alias in re.findall(r"\bas ([^\s(){}\[\];,.]*-[^\s(){}\[\];,.]*)", line):
                 defined[alias] += 1
-    return {n: OTHERWISE.get(n, respelt(n)) for n in defined
-            if n not in made and n not in library and not n.startswith('-')
-            and re.fullmatch(r"[\w']+(?:-[\w']+)+", n)}
+    return {n: respelt(n) for n in defined
+            if n not in made and n not in library and re.fullmatch(r"[\w']+(?:-[\w']+)+", n)} | ALIASES
 
 
 def turn(text, names):

@@ -1,6 +1,6 @@
 ghost use Rattle.std.specs.Prelude.{◌≡◌, ◌≤◌, length, take};
 ghost use Rattle.algebra.specs.Term.{has, place as place_of};
-ghost use Rattle.book.specs.Judge.{judge_new, joins as JoinsSet, granted};
+ghost use Rattle.book.specs.Judge.{judge_new, joins as joins_set, granted};
 
 use crate::contents::Basis;
 use crate::refusal::Refusal;
@@ -45,7 +45,7 @@ impl Basis {
     // Whether `t` may be added: 1 to an empty set, a variable times a term that is there to any other.
     fn joins(&self, t: &Term) -> bool
         requires { self.now.size ≤ 32 }
-        ensures { result ≡ JoinsSet self.now.variables (take self.now.size self.now.terms) t.now }
+        ensures { result ≡ joins_set self.now.variables (take self.now.size self.now.terms) t.now }
     {
         if self.size == 0 {
             same(t, &[0; 8])

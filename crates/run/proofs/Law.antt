@@ -117,6 +117,10 @@ clash_phase : (A : Arithmetic) (L : Ledger) (o : Option Clash) → first_clash (
 clash_phase A L None e h = e
 clash_phase A L (Some x) e h = not_sound Clashing refl h
 
+closed_phase : (o : Option Clash) → is_closed (phase_of o) ≡ true
+closed_phase None = refl
+closed_phase (Some x) = refl
+
 -- a granted call keeps the ledger's facts
 pub changed_kept : (A : Arithmetic) (L : Ledger) → Kept A L → (s : Step) → judge A L s ≡ None → Kept A (changed A L s)
 changed_kept A L k (lay n) e =

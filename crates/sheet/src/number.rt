@@ -1,5 +1,5 @@
 ghost use Rattle.std.specs.Prelude.{◌≡◌, ◌<◌};
-ghost use Rattle.sheet.specs.Number.{within as within_limit, ending as EndingOf, third, second, read_number, ReadAsWritten};
+ghost use Rattle.sheet.specs.Number.{within as within_limit, ending as ending_of, third, second, read_number, ReadAsWritten};
 
 // Why bytes are no number.
 #[derive(Clone, Copy, Debug, PartialEq)]
@@ -20,7 +20,7 @@ fn within(limit: u16, value: u32, size: usize) -> Result<(u16, usize), NumberCau
 }
 
 fn ending(limit: u16, last: u8, value: u32, size: usize) -> Result<(u16, usize), NumberCause>
-    ensures { result ≡ EndingOf limit last value size }
+    ensures { result ≡ ending_of limit last value size }
 {
     if last == 0 {
         Err(NumberCause::NotShortest)

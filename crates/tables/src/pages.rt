@@ -1,5 +1,5 @@
 ghost use Rattle.std.specs.Prelude.{◌≡◌, ◌<◌, [], ◌∷◌, ◌++◌, IfOk, OnOk};
-ghost use Rattle.tables.specs.Page.{digit as digit_of, cell, in_turn, apply as applied, entry as entry_of, sign as sign_of, label as label_of, line as LineOf, table as table_of, page as page_of};
+ghost use Rattle.tables.specs.Page.{digit as digit_of, cell, in_turn, apply as applied, entry as entry_of, sign as sign_of, label as label_of, line as line_of, table as table_of, page as page_of};
 
 use field::Field;
 use std::alloc::{AllocError, Global};
@@ -90,7 +90,7 @@ fn push_entries<F: Field>(out: &mut Vec<u8>, f: &F, line: Line) -> Result<(), Al
 }
 
 fn push_line<F: Field>(out: &mut Vec<u8>, f: &F, line: Line) -> Result<(), AllocError>
-    ensures { OnOk result (out.new.items ≡ out.old.items ++ LineOf line (F.Field.meaning f.now)) }
+    ensures { OnOk result (out.new.items ≡ out.old.items ++ line_of line (F.Field.meaning f.now)) }
 {
     push_label(out, line)?;
     push_entries(out, f, line)?;
@@ -99,7 +99,7 @@ fn push_line<F: Field>(out: &mut Vec<u8>, f: &F, line: Line) -> Result<(), Alloc
 }
 
 fn push_rows<F: Field>(out: &mut Vec<u8>, f: &F, operation: Operation) -> Result<(), AllocError>
-    ensures { OnOk result (out.new.items ≡ out.old.items ++ in_turn (λ a. LineOf (Line.Row operation a) (F.Field.meaning f.now)) (F.Field.meaning f.now).order) }
+    ensures { OnOk result (out.new.items ≡ out.old.items ++ in_turn (λ a. line_of (Line.Row operation a) (F.Field.meaning f.now)) (F.Field.meaning f.now).order) }
 {
     for a in 0..f.order() {
         push_line(out, f, Line::Row(operation, a))?;
