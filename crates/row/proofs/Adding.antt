@@ -1,9 +1,9 @@
 -- Row arithmetic one code after the other. Assumes nothing.
 use Rattle.std.proofs.Common.{◌≡◌, ℕ, zero, suc, ◌+◌, ◌<◌, ◌≤◌, Bool, ◌&&◌, eqb, ◌⊎◌, List, [], ◌∷◌, length, get_or, set, replicate, sym, refl, ap, ◌∙◌, inl, inr, add-one, arith}
 use Rattle.std.specs.List.{list_all}
-use Rattle.std.proofs.lemmas.List.{set_past, get_or_past}
+use Rattle.std.proofs.lemmas.List.{set_past}
 use Rattle.field.specs.Arithmetic.{Ring}
-use Rattle.algebra.specs.Border.{Row, at_place}
+use Rattle.algebra.specs.Border.{Row}
 use Rattle.algebra.specs.Walk.{all_zero}
 use Rattle.row.specs.Sums.{combined, add_multiple, add_at, subtract, zeros_like}
 
@@ -66,12 +66,3 @@ pub add_nowhere : (R : Ring) (v : Row) (k c : ℕ) → ((1 ≤ k) × (length v <
 add_nowhere R v zero c h = refl
 add_nowhere R v (suc k) c (inl h) = sym (set_past v k _ (omega arith))
 add_nowhere R v (suc k) c (inr h) = absurd (omega arith)
-
-pub nothing_there : (rows : List Row) (k : ℕ) → ((1 ≤ k) × (length rows < k)) ⊎ (k < 1) → at_place k rows [] ≡ []
-nothing_there rows zero h = refl
-nothing_there rows (suc k) (inl h) = get_or_past rows k [] (omega arith)
-nothing_there rows (suc k) (inr h) = absurd (omega arith)
-
-pub add_nothing : (R : Ring) (v : Row) (c : ℕ) → v ≡ add_multiple R v c []
-add_nothing R [] c = refl
-add_nothing R (a ∷ v) c = refl

@@ -1,14 +1,14 @@
 -- A row beside the leads of its terms, at their end and copied back. Assumes nothing.
-use Rattle.std.proofs.Common.{◌≡◌, ℕ, zero, suc, ◌-◌, ◌≤◌, leb, ◌⊎◌, List, [], ◌∷◌, ◌++◌, length, take, replicate, sym, refl, ap, ◌∙◌, inl, inr, arith, length-append, length-take}
+use Rattle.std.proofs.Common.{◌≡◌, ℕ, zero, suc, ◌-◌, ◌<◌, ◌≤◌, leb, ◌⊎◌, List, [], ◌∷◌, ◌++◌, length, get_or, take, replicate, None, Option, unwrap_or, sym, refl, ap, ◌∙◌, inl, inr, arith, length-append, length-take}
 use lib.ListN.{length-replicate}
 use Rattle.std.proofs.lemmas.List.{take_at}
 use Rattle.std.proofs.lemmas.Bool.{cond-true, le-leb}
 use Rattle.field.specs.Arithmetic.{Ring}
 use Rattle.algebra.specs.Term.{Term}
-use Rattle.algebra.specs.Border.{Row}
+use Rattle.algebra.specs.Border.{Row, at_place}
 use Rattle.row.specs.declared.lead.Lead.{Lead}
 use Rattle.row.specs.Sums.{zeros_like}
-use Rattle.row.specs.Leads.{map_led, advanced}
+use Rattle.row.specs.Leads.{given_rows, map_led, advanced}
 use Rattle.row.specs.Listing.{Listed, listed_all, step_led}
 
 -- where the codes or the leads are at their end, nothing is added
@@ -24,6 +24,18 @@ step_led_end s m [] ls h = refl
 step_led_end s m (c ∷ v) [] h = refl
 step_led_end s m (c ∷ v) (l ∷ ls) (inl h) = absurd (omega arith)
 step_led_end s m (c ∷ v) (l ∷ ls) (inr h) = absurd (omega arith)
+
+-- the row that stands at a place, empty where there is none
+given_at : (os : List (Option Row)) (k : ℕ) → get_or (given_rows os) k [] ≡ unwrap_or (get_or os k None) []
+given_at [] k = refl
+given_at (o ∷ os) zero = refl
+given_at (o ∷ os) (suc k) = given_at os k
+
+pub row_at : (os : List (Option Row)) (place : ℕ) (o : Option Row) → 1 ≤ place → get_or os (place - 1) None ≡ o → unwrap_or o [] ≡ at_place place (given_rows os) []
+row_at os zero o l e = absurd (omega arith)
+row_at os (suc k) o l e =
+    let before : suc k - 1 ≡ k = omega arith in
+    ap (λ (x : Option Row). unwrap_or x []) (sym e ∙ ap (λ (j : ℕ). get_or os j None) before) ∙ sym (given_at os k)
 
 blank_part : (v : Row) (n : ℕ) → length v ≤ n → take (length v) (replicate n 0) ≡ zeros_like v
 blank_part [] n l = refl
