@@ -1,5 +1,5 @@
-use Rattle.std.proofs.Common.{sym, arith}
-use Rattle.row.proofs.Leading.{row_at, no_row_at}
+use Rattle.std.proofs.Common.{arith}
+use Rattle.row.proofs.Leading.{row_at}
 use Rattle.row.proofs.maps.Maps.row.Goals as goal
 
 pub returns-in-Some : goal.returns-in-Some
