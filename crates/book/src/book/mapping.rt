@@ -8,12 +8,22 @@ ghost use Rattle.book.specs.Kept.{ledger, ready, terms_of};
 
 use crate::book::Book;
 use field::Field;
-use row::{advance, clear, subtract};
+use row::{Maps, clear, subtract};
 
 impl<F: Field> Book<F> {
+    pub(crate) fn maps(&self) -> Maps<'_, F>
+        ensures field { result.field.now ≡ self.now.field }
+        ensures rows { result.rows.now ≡ self.now.contents.rules.rows }
+    {
+        Maps {
+            field: &self.field,
+            rows: &self.contents.rules.rows,
+        }
+    }
+
     // Writes the row with 1 at term `j` of S, counted from 0, and 0 elsewhere.
     pub(crate) fn unit(&self, j: usize, row: &mut [u16])
-        requires { (ready self.now.contents ≡ true) × ((j < self.now.contents.basis.size) × (length row.old ≡ self.now.contents.basis.size)) }
+        requires { (ready self.now.contents ≡ true) × ((j < length (terms_of self.now.contents)) × (length row.old ≡ length (terms_of self.now.contents))) }
         ensures { row.new ≡ unit_row (terms_of self.now.contents) (slice_index_or (terms_of self.now.contents) j []) }
     {
         clear(row);
@@ -22,23 +32,23 @@ impl<F: Field> Book<F> {
 
     // Maps a row by variable `i`, counted from 0.
     pub(crate) fn map(&self, i: usize, row: &mut [u16])
-        requires { (ready self.now.contents ≡ true) × ((i < self.now.contents.basis.variables) × (length row.old ≡ self.now.contents.basis.size)) }
+        requires { (ready self.now.contents ≡ true) × ((i < self.now.contents.basis.variables) × (length row.old ≡ length (terms_of self.now.contents))) }
         ensures { row.new ≡ mapped (ring (F.Field.meaning self.now.field)) (system (ledger self.now.contents)) i row.old }
     {
-        let leads = &self.contents.border.leads[i];
-        advance(&self.field, &self.contents.rules.rows, leads, row);
+        let leads = &self.contents.border.leads.columns[i];
+        self.maps().advance(leads, row);
     }
 
     // Writes MaMb(t) − MbMa(t) for term `j` of S.
     pub(crate) fn commutator(&self, a: usize, b: usize, j: usize, row: &mut [u16])
-        requires { (ready self.now.contents ≡ true) × ((a < self.now.contents.basis.variables) × ((b < self.now.contents.basis.variables) × ((j < self.now.contents.basis.size) × (length row.old ≡ self.now.contents.basis.size)))) }
+        requires { (ready self.now.contents ≡ true) × ((a < self.now.contents.basis.variables) × ((b < self.now.contents.basis.variables) × ((j < length (terms_of self.now.contents)) × (length row.old ≡ length (terms_of self.now.contents))))) }
         ensures { row.new ≡ commutator_row (ring (F.Field.meaning self.now.field)) (system (ledger self.now.contents)) a b (slice_index_or (terms_of self.now.contents) j []) }
     {
         self.unit(j, row);
         self.map(b, row);
         self.map(a, row);
         let mut other = [0u16; 32];
-        let other = &mut other[0..self.contents.basis.size];
+        let other = &mut other[0..self.contents.basis.terms.len()];
         self.unit(j, other);
         self.map(a, other);
         self.map(b, other);

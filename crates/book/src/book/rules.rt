@@ -33,8 +33,7 @@ impl<F: Field> Book<F> {
         let place = self.judge_rule(&e, k, row)?;
         let inverse = self.field.inverse(k).unwrap_or(0);
         let codes = kept_row(&self.field, row, inverse);
-        self.contents.rules.rows[place - 1] = codes;
-        self.contents.rules.given[place - 1] = true;
+        self.contents.rules.rows[place - 1] = Some(codes);
         self.contents.phase = Phase::Closed; // no verdict outlives a replaced rule
         Ok(())
     }
@@ -46,7 +45,7 @@ impl<F: Field> Book<F> {
         ensures field { self.new.field ≡ self.old.field }
     {
         let place = self.judge_strike(&e)?;
-        self.contents.rules.given[place - 1] = false;
+        self.contents.rules.rows[place - 1] = None;
         self.contents.phase = Phase::Closed; // nor a struck one
         Ok(())
     }

@@ -2,7 +2,6 @@ use Rattle.std.proofs.Common.{sym, refl, ◌∙◌, arith}
 use Rattle.field.specs.Arithmetic.{ring}
 use Rattle.book.specs.Kept.{ledger}
 use Rattle.book.specs.Ledger.{system}
-use Rattle.book.proofs.Ready.{ready_contents}
 use Rattle.book.proofs.Clashing.{terms_passed, terms_found, terms_none}
 use Rattle.book.proofs.book.Book.first_clash.Goals as goal
 
@@ -12,17 +11,17 @@ loop-j-init g c = refl
 pub returns-in-Some : goal.returns-in-Some
 returns-in-Some g c =
     let k = c.args.self.now.contents in
-    sym (terms_found (ring (g.F.Field.meaning c.args.self.now.field)) (system (ledger k)) c.loop-j.j (c.in-Some.a, c.in-Some.b) (omega (arith, c.loop-j-test.true, (ready_contents k c.args.self.now.kept c.requires).size)) c.in-Some.ensures)
+    sym (terms_found (ring (g.F.Field.meaning c.args.self.now.field)) (system (ledger k)) c.loop-j.j (c.in-Some.a, c.in-Some.b) (omega arith) c.in-Some.ensures)
     ∙ c.loop-j.invariant
 
 pub loop-j-preserved : goal.loop-j-preserved
 loop-j-preserved g c =
     let k = c.args.self.now.contents in
-    sym (terms_passed (ring (g.F.Field.meaning c.args.self.now.field)) (system (ledger k)) c.loop-j.j (omega (arith, c.loop-j-test.true, (ready_contents k c.args.self.now.kept c.requires).size)) c.in_default.ensures)
+    sym (terms_passed (ring (g.F.Field.meaning c.args.self.now.field)) (system (ledger k)) c.loop-j.j (omega arith) c.in_default.ensures)
     ∙ c.loop-j.invariant
 
 pub returns : goal.returns
 returns g c =
     let k = c.args.self.now.contents in
-    sym (terms_none (ring (g.F.Field.meaning c.args.self.now.field)) (system (ledger k)) c.loop-j.j (omega (arith, c.loop-j-test.false, (ready_contents k c.args.self.now.kept c.requires).size)))
+    sym (terms_none (ring (g.F.Field.meaning c.args.self.now.field)) (system (ledger k)) c.loop-j.j (omega arith))
     ∙ c.loop-j.invariant

@@ -1,5 +1,6 @@
-use Rattle.std.proofs.Common.{[], get_or}
-use Rattle.row.proofs.Listing.{listing}
+use Rattle.std.proofs.Common.{[], get_or, ◌∙◌}
+use Rattle.row.specs.Leads.{given_rows}
+use Rattle.row.specs.Listing.{listing}
 use Rattle.book.specs.Kept.{ledger, terms_of}
 use Rattle.book.specs.Ledger.{system}
 use Rattle.book.proofs.Ready.{ready_contents}
@@ -10,7 +11,10 @@ pub returns : goal.returns
 returns g c =
     let k = c.args.self.now.contents in
     let a = ready_contents k c.args.self.now.kept c.requires.0 in
-    walk_listed (g.met.F.Field.lawful c.args.self.now.field).commutative_ring (system (ledger k)) a.good k.rules.rows a.stored a.few k.border.leads a.leading
-    c.args.first c.args.second (get_or (terms_of k) c.args.j []) c.requires.1.1.0 c.requires.1.1.1 c.unit.new.row c.map.new.row c.raised.result
-    (listing c.args.slots.now c.args.count) (listing c.list_step-count.new.slots c.list_step-count.result) (listing c.list_step.new.slots c.list_step.result)
-    c.unit.ensures c.raised.ensures c.list_step-count.ensures c.map.ensures c.list_step.ensures
+    record {
+      same_reference = c.list_step-2.ensures.same_reference ∙ c.list_step.ensures.same_reference;
+      listed = walk_listed (g.met.F.Field.lawful c.args.self.now.field).commutative_ring (system (ledger k)) a.good (given_rows k.rules.rows) a.stored a.few k.border.leads.columns a.leading
+          c.args.first c.args.second (get_or (terms_of k) c.args.j []) c.requires.1.1.0 c.requires.1.1.1 c.unit.new.row c.map.new.row c.raised.result
+          (listing c.args.slots.now.slots.now c.args.slots.now.count) (listing c.list_step.new.self.slots.now c.list_step.new.self.count) (listing c.list_step-2.new.self.slots.now c.list_step-2.new.self.count)
+          c.unit.ensures c.raised.ensures c.list_step.ensures.listed c.map.ensures c.list_step-2.ensures.listed;
+    }

@@ -1,4 +1,4 @@
-use Rattle.std.proofs.Common.{◌∙◌}
+use Rattle.std.proofs.Common.{◌*◌, sym, ◌∙◌, arith}
 use Rattle.field.specs.Arithmetic.{ring}
 use Rattle.book.proofs.Forming.{row_within, tabled_none, tabled_more, tabled_all}
 use Rattle.book.proofs.book.Book.write_table.Goals as goal
@@ -7,14 +7,15 @@ pub loop-j-init : goal.loop-j-init
 loop-j-init g c = tabled_none (ring (g.F.Field.meaning c.args.self.now.field)) c.args.self.now.contents c.args.i c.args.table.now
 
 pub slice_bounds-part-end : goal.slice_bounds-part-end
-slice_bounds-part-end g c = row_within c.loop-j.j c.args.self.now.contents.basis.size c.loop-j.table c.loop-j-test.true (c.loop-j.auto.table ∙ c.requires.1.1)
+slice_bounds-part-end g c = row_within c.loop-j.j c.len-size.result c.loop-j.table c.loop-j-test.true (c.loop-j.auto.table ∙ c.requires.1.1 ∙ (λ i. sym c.len-size.ensures.value i * sym c.len-size.ensures.value i))
 
 pub loop-j-preserved : goal.loop-j-preserved
 loop-j-preserved g c =
-    tabled_more (g.met.F.Field.lawful c.args.self.now.field).commutative_ring c.args.self.now.contents c.args.self.now.kept c.requires.0 c.args.i c.loop-j.j _ c.loop-j.table
-    c.unit.new.row c.map.new.row c.requires.1.0 c.loop-j-test.true (c.loop-j.auto.table ∙ c.requires.1.1) c.loop-j.invariant c.unit.ensures c.map.ensures
+    rw c.len-size.ensures.value
+    (tabled_more (g.met.F.Field.lawful c.args.self.now.field).commutative_ring c.args.self.now.contents c.args.self.now.kept c.requires.0 c.args.i c.loop-j.j _ c.loop-j.table
+    c.unit.new.row c.map.new.row c.requires.1.0 (omega arith) (c.loop-j.auto.table ∙ c.requires.1.1) c.loop-j.invariant c.unit.ensures c.map.ensures)
 
 pub returns : goal.returns
 returns g c =
     tabled_all (g.met.F.Field.lawful c.args.self.now.field).commutative_ring c.args.self.now.contents c.args.self.now.kept c.requires.0 c.args.i c.loop-j.j c.loop-j.table
-    c.loop-j-test.false c.loop-j.auto.j-end (c.loop-j.auto.table ∙ c.requires.1.1) c.loop-j.invariant
+    (omega arith) (omega arith) (c.loop-j.auto.table ∙ c.requires.1.1) c.loop-j.invariant
