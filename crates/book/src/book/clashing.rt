@@ -1,14 +1,14 @@
 // The search for the first clash, and its witness.
-ghost use Rattle.std.specs.Prelude.{◌≡◌, ◌+◌, ◌-◌, ◌*◌, ◌<◌, ◌≤◌, true, [], ◌∷◌, length, slice_index_or};
+ghost use Rattle.std.specs.Prelude.{◌≡◌, ◌+◌, ◌-◌, ◌*◌, ◌<◌, ◌≤◌, [], ◌∷◌, length, slice_index_or};
 ghost use Rattle.field.specs.Arithmetic.{ring};
 ghost use Rattle.algebra.specs.Walk.{unit as unit_row, entries};
 ghost use Rattle.algebra.specs.Clash.{commutator as commutator_row, commutator_entries, negative_entries, pairs_with, pairs, clash_at as clash_of, first_clash};
 ghost use Rattle.row.specs.Listing.{listing, listed_all};
 ghost use Rattle.book.specs.Ledger.{system};
 ghost use Rattle.book.specs.Effects.{written};
-ghost use Rattle.book.specs.Kept.{ledger, ready, terms_of};
+ghost use Rattle.book.specs.Kept.{ledger, terms_of};
 
-use crate::book::Book;
+use crate::book::Complete;
 use algebra::{Clash, Entry};
 use field::Field;
 use row::{Slots, is_zero};
@@ -23,11 +23,11 @@ fn negate<F: Field>(f: &F, slots: &mut [Entry])
     }
 }
 
-impl<F: Field> Book<F> {
+impl<F: Field> Complete<'_, F> {
     // The first b after a for which the maps of a and b do not commute at term `j`.
     fn clash_with(&self, j: usize, a: usize) -> Option<(usize, usize)>
-        requires { (ready self.now.contents ≡ true) × ((j < length (terms_of self.now.contents)) × (a < self.now.contents.basis.variables)) }
-        ensures { result ≡ clash_of (ring (F.Field.meaning self.now.field)) (system (ledger self.now.contents)) (slice_index_or (terms_of self.now.contents) j []) (pairs_with a (a + 1) (self.now.contents.basis.variables - (a + 1))) }
+        requires { (j < length (terms_of self.now.contents.now)) × (a < self.now.contents.now.basis.variables) }
+        ensures { result ≡ clash_of (ring (F.Field.meaning self.now.field.now)) (system (ledger self.now.contents.now)) (slice_index_or (terms_of self.now.contents.now) j []) (pairs_with a (a + 1) (self.now.contents.now.basis.variables - (a + 1))) }
     {
         let mut row = [0u16; 32];
         let row = &mut row[0..self.contents.basis.terms.len()];
@@ -42,8 +42,8 @@ impl<F: Field> Book<F> {
 
     // The first pair for which the maps do not commute at term `j`.
     fn clash_at(&self, j: usize) -> Option<(usize, usize)>
-        requires { (ready self.now.contents ≡ true) × (j < length (terms_of self.now.contents)) }
-        ensures { result ≡ clash_of (ring (F.Field.meaning self.now.field)) (system (ledger self.now.contents)) (slice_index_or (terms_of self.now.contents) j []) (pairs self.now.contents.basis.variables) }
+        requires { j < length (terms_of self.now.contents.now) }
+        ensures { result ≡ clash_of (ring (F.Field.meaning self.now.field.now)) (system (ledger self.now.contents.now)) (slice_index_or (terms_of self.now.contents.now) j []) (pairs self.now.contents.now.basis.variables) }
     {
         for a in 0..self.contents.basis.variables {
             if let Some(pair) = self.clash_with(j, a) {
@@ -54,8 +54,7 @@ impl<F: Field> Book<F> {
     }
 
     pub(crate) fn first_clash(&self) -> Option<Clash>
-        requires { ready self.now.contents ≡ true }
-        ensures { result ≡ first_clash (ring (F.Field.meaning self.now.field)) (system (ledger self.now.contents)) }
+        ensures { result ≡ first_clash (ring (F.Field.meaning self.now.field.now)) (system (ledger self.now.contents.now)) }
     {
         for j in 0..self.contents.basis.terms.len() {
             if let Some((a, b)) = self.clash_at(j) {
@@ -67,9 +66,9 @@ impl<F: Field> Book<F> {
 
     // Lists the entries of the walk of term `j` by two variables, one after the other.
     fn list_walk(&self, j: usize, first: usize, second: usize, slots: &mut Slots<'_>)
-        requires { (ready self.now.contents ≡ true) × ((j < length (terms_of self.now.contents)) × ((first < self.now.contents.basis.variables) × (second < self.now.contents.basis.variables))) }
+        requires { (j < length (terms_of self.now.contents.now)) × ((first < self.now.contents.now.basis.variables) × (second < self.now.contents.now.basis.variables)) }
         ensures same_reference { slots.new.slots.ghost_name ≡ slots.old.slots.ghost_name }
-        ensures listed { listing slots.new.slots.now slots.new.count ≡ listed_all (listing slots.old.slots.now slots.old.count) (entries (ring (F.Field.meaning self.now.field)) (system (ledger self.now.contents)) (unit_row (terms_of self.now.contents) (slice_index_or (terms_of self.now.contents) j [])) (first ∷ second ∷ [])) }
+        ensures listed { listing slots.new.slots.now slots.new.count ≡ listed_all (listing slots.old.slots.now slots.old.count) (entries (ring (F.Field.meaning self.now.field.now)) (system (ledger self.now.contents.now)) (unit_row (terms_of self.now.contents.now) (slice_index_or (terms_of self.now.contents.now) j [])) (first ∷ second ∷ [])) }
     {
         let mut row = [0u16; 32];
         let row = &mut row[0..self.contents.basis.terms.len()];
@@ -82,12 +81,11 @@ impl<F: Field> Book<F> {
 
     // Writes the row and the entries of a clash, and gives the number of entries.
     pub(crate) fn write_clash(&self, clash: Clash, row: &mut [u16], slots: &mut [Entry]) -> usize
-        requires ready { ready self.now.contents ≡ true }
-        requires clash { (clash.term < length (terms_of self.now.contents)) × ((clash.a < self.now.contents.basis.variables) × (clash.b < self.now.contents.basis.variables)) }
-        requires lengths { (length row.old ≡ length (terms_of self.now.contents)) × (2 * length (terms_of self.now.contents) + 2 ≤ length slots.old) }
-        ensures row { row.new ≡ commutator_row (ring (F.Field.meaning self.now.field)) (system (ledger self.now.contents)) clash.a clash.b (slice_index_or (terms_of self.now.contents) clash.term []) }
-        ensures slots { slots.new ≡ written (commutator_entries (ring (F.Field.meaning self.now.field)) (system (ledger self.now.contents)) clash.a clash.b (slice_index_or (terms_of self.now.contents) clash.term [])) slots.old }
-        ensures count { result ≡ length (commutator_entries (ring (F.Field.meaning self.now.field)) (system (ledger self.now.contents)) clash.a clash.b (slice_index_or (terms_of self.now.contents) clash.term [])) }
+        requires clash { (clash.term < length (terms_of self.now.contents.now)) × ((clash.a < self.now.contents.now.basis.variables) × (clash.b < self.now.contents.now.basis.variables)) }
+        requires lengths { (length row.old ≡ length (terms_of self.now.contents.now)) × (2 * length (terms_of self.now.contents.now) + 2 ≤ length slots.old) }
+        ensures row { row.new ≡ commutator_row (ring (F.Field.meaning self.now.field.now)) (system (ledger self.now.contents.now)) clash.a clash.b (slice_index_or (terms_of self.now.contents.now) clash.term []) }
+        ensures slots { slots.new ≡ written (commutator_entries (ring (F.Field.meaning self.now.field.now)) (system (ledger self.now.contents.now)) clash.a clash.b (slice_index_or (terms_of self.now.contents.now) clash.term [])) slots.old }
+        ensures count { result ≡ length (commutator_entries (ring (F.Field.meaning self.now.field.now)) (system (ledger self.now.contents.now)) clash.a clash.b (slice_index_or (terms_of self.now.contents.now) clash.term [])) }
     {
         self.commutator(clash.a, clash.b, clash.term, row);
         let mut slots = Slots { slots, count: 0 };
@@ -95,7 +93,7 @@ impl<F: Field> Book<F> {
         let middle = slots.count;
         self.list_walk(clash.term, clash.b, clash.a, &mut slots);
         let end = slots.count;
-        negate(&self.field, &mut slots.slots[middle..end]);
+        negate(self.field, &mut slots.slots[middle..end]);
         end
     }
 }

@@ -1,19 +1,19 @@
 // Normal forms, cofactors and tables of a sound book.
-ghost use Rattle.std.specs.Prelude.{◌≡◌, ◌*◌, ◌<◌, ◌≤◌, true, [], ◌∷◌, length};
+ghost use Rattle.std.specs.Prelude.{◌≡◌, ◌*◌, ◌<◌, ◌≤◌, [], ◌∷◌, length};
 ghost use Rattle.field.specs.Arithmetic.{ring};
 ghost use Rattle.algebra.specs.Polynomial.{Over};
 ghost use Rattle.algebra.specs.Walk.{normal_form, cofactors as cofactor_entries};
 ghost use Rattle.row.specs.Listing.{listing, listed_all};
 ghost use Rattle.book.specs.Ledger.{system};
 ghost use Rattle.book.specs.Effects.{table_rows};
-ghost use Rattle.book.specs.Kept.{ledger, ready, terms_of};
+ghost use Rattle.book.specs.Kept.{ledger, terms_of};
 
-use crate::book::Book;
+use crate::book::Complete;
 use algebra::{Entry, Term};
 use field::Field;
 use row::{Slots, add_multiple, clear};
 
-impl<F: Field> Book<F> {
+impl<F: Field> Complete<'_, F> {
     // Writes the normal form of a polynomial into the row, and lists its cofactors while there are slots.
     pub(crate) fn write_form(
         &self,
@@ -21,9 +21,9 @@ impl<F: Field> Book<F> {
         row: &mut [u16],
         slots: &mut [Entry],
     ) -> usize
-        requires { (ready self.now.contents ≡ true) × ((Over self.now.contents.basis.variables p.now) × (length row.old ≡ length (terms_of self.now.contents))) }
-        ensures row { row.new ≡ normal_form (ring (F.Field.meaning self.now.field)) (system (ledger self.now.contents)) p.now }
-        ensures listed { listing slots.new result ≡ listed_all (listing slots.old 0) (cofactor_entries (ring (F.Field.meaning self.now.field)) (system (ledger self.now.contents)) p.now) }
+        requires { (Over self.now.contents.now.basis.variables p.now) × (length row.old ≡ length (terms_of self.now.contents.now)) }
+        ensures row { row.new ≡ normal_form (ring (F.Field.meaning self.now.field.now)) (system (ledger self.now.contents.now)) p.now }
+        ensures listed { listing slots.new result ≡ listed_all (listing slots.old 0) (cofactor_entries (ring (F.Field.meaning self.now.field.now)) (system (ledger self.now.contents.now)) p.now) }
     {
         clear(row);
         let size = self.contents.basis.terms.len();
@@ -34,15 +34,15 @@ impl<F: Field> Book<F> {
             start[0] = *code;
             let last = &mut start[0..size];
             maps.walk(&self.contents.border.leads.columns, last, *t, &mut slots);
-            add_multiple(&self.field, row, 1, last);
+            add_multiple(self.field, row, 1, last);
         }
         slots.count
     }
 
     // Writes the rows of variable `i`, counted from 0, times each term.
     pub(crate) fn write_table(&self, i: usize, table: &mut [u16])
-        requires { (ready self.now.contents ≡ true) × ((i < self.now.contents.basis.variables) × (length table.old ≡ length (terms_of self.now.contents) * length (terms_of self.now.contents))) }
-        ensures { table.new ≡ table_rows (ring (F.Field.meaning self.now.field)) (system (ledger self.now.contents)) i (terms_of self.now.contents) }
+        requires { (i < self.now.contents.now.basis.variables) × (length table.old ≡ length (terms_of self.now.contents.now) * length (terms_of self.now.contents.now)) }
+        ensures { table.new ≡ table_rows (ring (F.Field.meaning self.now.field.now)) (system (ledger self.now.contents.now)) i (terms_of self.now.contents.now) }
     {
         let size = self.contents.basis.terms.len();
         for j in 0..size {
