@@ -11,5 +11,5 @@ pub returns : goal.returns
 returns c =
     let next : c.map.result ≡ option_map (λ k. k + 1) c.position.result = search rules in
     next ∙ ap (option_map (λ k. k + 1)) (position_from_yields_List (same c.args.t.now) _ _ c.position.result c.position.ensures.ran
-      (YieldsList-from_slice c.args.terms.now cc) (λ x b q k. search (rules, tests)))
+    (YieldsList-from_slice c.args.terms.now cc) (λ x b q k. search (rules, tests)))
     ∙ place_position c.args.t.now c.args.terms.now
