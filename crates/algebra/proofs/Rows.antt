@@ -1,5 +1,6 @@
 -- Rows under weights: the total of a row's combination is linear in the row. Assumes nothing.
 use Rattle.std.proofs.Common.{◌≡◌, ℕ, suc, ◌<◌, true, false, List, [], ◌∷◌, map, length, sym, refl, ap, ◌∙◌, ⊎_elim, arith}
+use Rattle.std.proofs.lemmas.List.{length-map}
 use Rattle.std.proofs.lemmas.Bool.{cases_Bool, cond-true, cond-false, cond_both, both_ways, or_parts, and_parts, eqb-true}
 use Rattle.field.specs.Arithmetic.{Ring, CommutativeRing, read}
 use Rattle.field.specs.Laws.{derived, positive, read_code, sum_right}
@@ -146,4 +147,4 @@ map_length f (x ∷ xs) = ap suc (map_length f xs)
 
 pub at_one_length : (c : ℕ) (ts : List Term) → length (at_one c ts) ≡ length ts
 at_one_length c [] = refl
-at_one_length c (t ∷ ts) = ap suc (map_length _ ts)
+at_one_length c (t ∷ ts) = ap suc (length-map ts _)

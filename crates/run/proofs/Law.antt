@@ -1,6 +1,6 @@
 -- Every run keeps the law. Assumes nothing.
 use Rattle.std.proofs.Common.{◌≡◌, ℕ, zero, suc, ◌-◌, ◌*◌, ◌<◌, ◌≤◌, Bool, true, false, not, ◌&&◌, eqb, ltb, leb, List, [], ◌∷◌, map, length, set, is_ok, Some, None, Option, unwrap_or, sym, refl, ap, ◌∙◌, subst, ⊎_elim, arith}
-use Rattle.std.proofs.lemmas.List.{length-set, get_or-set_same}
+use Rattle.std.proofs.lemmas.List.{length-map, length-set, get_or-set_same}
 use Rattle.std.proofs.lemmas.Bool.{both_ways, and_parts, leb-true, eqb-false, cases_lt}
 use Rattle.field.specs.Arithmetic.{Arithmetic, ring, Lawful}
 use Rattle.algebra.specs.Term.{Term, has, place, zero_past, next_place}
@@ -10,7 +10,6 @@ use Rattle.algebra.specs.Walk.{normal_form, all_zero}
 use Rattle.algebra.specs.Clash.{first_clash}
 use Rattle.algebra.specs.Theorems.{Independent}
 use Rattle.algebra.specs.declared.Clash.{Clash}
-use Rattle.algebra.proofs.Rows.{map_length}
 use Rattle.algebra.proofs.Clashes.{no_clash, border_basis_theorem}
 use Rattle.term.specs.Search.{first_place}
 use Rattle.book.specs.declared.phase.Phase.{Phase}
@@ -91,7 +90,7 @@ lawful_system A L k c z =
     record {
       few_variables = k.few;
       is_connected = fit_connected L.variables L.terms s.some k.fit;
-      all_rules = map_length (λ (o : Option Row). unwrap_or o []) L.rows ∙ s.counted;
+      all_rules = length-map L.rows _ ∙ s.counted;
       are_rows = rows_given L.terms L.rows s.long z;
     }
 
@@ -147,7 +146,7 @@ changed_kept A L k close e =
       fit = k.fit;
       shaped = λ _. record {
         some = ⊎_elim (λ h. h) (λ h. absurd (eqb-false (length L.terms) 0 q.0 (omega arith))) (cases_lt 0 (length L.terms));
-        counted = map_length (λ (_ : Term). None) (edge L);
+        counted = length-map (edge L) _;
         long = long_none (length L.terms) (edge L);
       };
       sound = not_sound Closed refl;
@@ -161,7 +160,7 @@ changed_kept A L k (rule e c r) h =
       shaped = λ _. record {
         some = s.some;
         counted = length-set L.rows _ (Some (kept_row A c r)) ∙ s.counted;
-        long = long_set (length L.terms) L.rows _ (kept_row A c r) s.long (map_length _ r ∙ a.long);
+        long = long_set (length L.terms) L.rows _ (kept_row A c r) s.long (length-map r _ ∙ a.long);
       };
       sound = not_sound Closed refl;
     }
