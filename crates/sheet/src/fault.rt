@@ -1,5 +1,5 @@
-ghost use Rattle.std.specs.Prelude.{◌≡◌};
-ghost use Rattle.sheet.specs.Fault.{cause_number, fault_number, fault_byte, fault_record, fault_layer};
+ghost use Rattle.std.specs.Prelude.{◌≡◌, ◌+◌, ◌^◌, ◌<◌};
+ghost use Rattle.sheet.specs.Fault.{fault_at, cause_number, fault_number, fault_byte, fault_record, fault_layer};
 ghost use Rattle.sheet.specs.declared.fault.RecordFault.TheVariants as in_record;
 ghost use Rattle.sheet.specs.declared.fault.SheetFault.TheVariants as in_sheet;
 
@@ -51,6 +51,55 @@ impl From<RecordFault> for SheetFault {
 
     fn from(fault: RecordFault) -> SheetFault {
         SheetFault::Record(fault)
+    }
+}
+
+// Where a record or a number stands: its first byte in the sheet, and its record from 1, or 0 for the heading.
+#[derive(Clone, Copy)]
+pub(crate) struct Place {
+    pub(crate) byte: usize,
+    pub(crate) count: usize,
+}
+
+impl Place {
+    // So many bytes further on, in the same record.
+    pub(crate) fn after(self, bytes: usize) -> Place
+        requires { self.byte + bytes < 2 ^ 64 }
+        ensures byte { result.byte ≡ self.byte + bytes }
+        ensures count { result.count ≡ self.count }
+    {
+        Place {
+            byte: self.byte + bytes,
+            count: self.count,
+        }
+    }
+
+    pub(crate) fn number_fault(self, cause: NumberCause) -> NumberFault
+        ensures { result ≡ fault_at self.byte self.count cause }
+    {
+        NumberFault {
+            cause,
+            byte: self.byte,
+            record: self.count,
+        }
+    }
+
+    pub(crate) fn unknown_kind(self) -> RecordFault
+        ensures { result ≡ in_record.UnknownKind self.byte self.count }
+    {
+        RecordFault::UnknownKind {
+            byte: self.byte,
+            record: self.count,
+        }
+    }
+
+    pub(crate) fn wrong_body(self) -> RecordFault
+        ensures { result ≡ in_record.WrongBody self.byte self.count }
+    {
+        RecordFault::WrongBody {
+            byte: self.byte,
+            record: self.count,
+        }
     }
 }
 

@@ -3,10 +3,10 @@ ghost use Rattle.sheet.specs.Fault.{in_record};
 ghost use Rattle.sheet.specs.Body.{number_at};
 ghost use Rattle.sheet.specs.Reading.{state, open_sheet, opened, heading, heading_number, after_number, begun, next_record, seen_next, after_record, record_kind, record_body, held};
 
-use crate::fault::{RecordFault, SheetFault};
+use crate::fault::{Place, RecordFault, SheetFault};
 use crate::kind::Kind;
 use crate::reader::{Placed, Reader, Record};
-use crate::record::{number_at, read_record};
+use crate::record::{Extent, number_at, read_record};
 
 pub const OPENING: [u8; 3] = [0x42, 0x42, 0x31];
 
@@ -14,15 +14,15 @@ pub const OPENING: [u8; 3] = [0x42, 0x42, 0x31];
 fn bytes_from(bytes: &[u8], at: usize) -> &[u8]
     ensures { result.now ≡ drop at bytes.now }
 {
-    let from = at.min(bytes.len());
-    &bytes[from..]
+    bytes.get(at..).unwrap_or(&[])
 }
 
 fn heading_at(bytes: &[u8], at: usize) -> Result<(u16, usize), RecordFault>
     ensures value { result ≡ in_record (number_at 65535 (drop at bytes.now) at 0) }
     ensures inside { IfOk result (λ p. at + p.1 ≤ length bytes.now) }
 {
-    Ok(number_at(65535, bytes_from(bytes, at), at, 0)?)
+    let place = Place { byte: at, count: 0 };
+    Ok(number_at(65535, bytes_from(bytes, at), place)?)
 }
 
 fn record_of(kind: Kind, body: &[u8]) -> Record<'_>
@@ -46,17 +46,15 @@ impl<'a> Reader<'a> {
         if bytes.len() > 65535 {
             return Err(SheetFault::TooLong);
         }
-        match bytes {
-            [a, b, c, ..] if *a == OPENING[0] && *b == OPENING[1] && *c == OPENING[2] => Ok(
-                Reader {
-                    bytes,
-                    at: 3,
-                    records: 0,
-                    variables: 0,
-                },
-            ),
-            _ => Err(SheetFault::WrongOpening),
+        if !bytes.starts_with(&OPENING) {
+            return Err(SheetFault::WrongOpening);
         }
+        Ok(Reader {
+            bytes,
+            at: 3,
+            records: 0,
+            variables: 0,
+        })
     }
 
     pub fn begin(&mut self, variables: u16)
@@ -89,12 +87,11 @@ impl<'a> Reader<'a> {
         let variables = self.variables;
         let count = self.records.min(65534) + 1;
         let rest = bytes_from(bytes, at);
-        let extent = read_record(variables, rest, at, count)?;
-        let from = extent.from;
-        let to = extent.to;
+        let place = Place { byte: at, count };
+        let Extent { kind, from, to } = read_record(variables, rest, place)?;
         self.at = at + to;
         self.records = count;
-        let record = record_of(extent.kind, &rest[from..to]);
+        let record = record_of(kind, &rest[from..to]);
         Ok(Some(Placed {
             byte: at,
             count,
