@@ -12,8 +12,9 @@ next_at xs ys zs k o e step =
     let at : get_or (drop k xs) 0 0 ≡ get_or xs k 0 = get_or-drop k xs 0 0 ∙ ap (λ i. get_or xs i 0) (add-zero k) in
     let on : drop 1 (drop k xs) ≡ drop (k + 1) xs = drop-drop 1 k xs in
     elim o as (λ p. MatchOption p ((ys ≡ []) × (zs ≡ [])) (λ x. ys ≡ x ∷ zs) → (unwrap_or p 0 ≡ get_or xs k 0) × (zs ≡ drop (k + 1) xs)) [
-      None ↦ λ h. (ap (λ l. get_or l 0 0) (sym h.0 ∙ e) ∙ at, h.1 ∙ ap (drop 1) (sym h.0 ∙ e) ∙ on)
-      | Some x ↦ λ h. (ap (λ l. get_or l 0 0) (sym h ∙ e) ∙ at, ap (drop 1) (sym h ∙ e) ∙ on) ]
+      | None ↦ λ h. (ap (λ l. get_or l 0 0) (sym h.0 ∙ e) ∙ at, h.1 ∙ ap (drop 1) (sym h.0 ∙ e) ∙ on)
+      | Some x ↦ λ h. (ap (λ l. get_or l 0 0) (sym h ∙ e) ∙ at, ap (drop 1) (sym h ∙ e) ∙ on)
+    ]
     step
 
 -- the exponents that came out, and 0 for the others

@@ -116,6 +116,7 @@ impl NumberCause {
 }
 
 impl SheetFault {
+    // A method as the byte, the record and the layer are: a From<SheetFault> for u8 would be no plainer beside them.
     pub fn number(self) -> u8
         ensures { result ≡ fault_number self }
     {
@@ -130,28 +131,37 @@ impl SheetFault {
         }
     }
 
+    fn place(self) -> Place
+        ensures byte { result.byte ≡ fault_byte self }
+        ensures count { result.count ≡ fault_record self }
+    {
+        match self {
+            SheetFault::Record(RecordFault::Number(fault)) => Place {
+                byte: fault.byte,
+                count: fault.record,
+            },
+            SheetFault::Record(
+                RecordFault::UnknownKind { byte, record } | RecordFault::WrongBody { byte, record },
+            ) => Place {
+                byte,
+                count: record,
+            },
+            _ => Place { byte: 0, count: 0 },
+        }
+    }
+
     // The place of the byte that the fault was met at.
     pub fn byte(self) -> usize
         ensures { result ≡ fault_byte self }
     {
-        match self {
-            SheetFault::Record(RecordFault::Number(fault)) => fault.byte,
-            SheetFault::Record(RecordFault::UnknownKind { byte, .. }) => byte,
-            SheetFault::Record(RecordFault::WrongBody { byte, .. }) => byte,
-            _ => 0,
-        }
+        self.place().byte
     }
 
     // The record that the fault was met in, from 1, or 0 for the heading and the whole sheet.
     pub fn record(self) -> usize
         ensures { result ≡ fault_record self }
     {
-        match self {
-            SheetFault::Record(RecordFault::Number(fault)) => fault.record,
-            SheetFault::Record(RecordFault::UnknownKind { record, .. }) => record,
-            SheetFault::Record(RecordFault::WrongBody { record, .. }) => record,
-            _ => 0,
-        }
+        self.place().count
     }
 
     pub fn layer(self) -> Layer

@@ -51,17 +51,17 @@ impl From<Kind> for u16 {
 }
 
 impl Kind {
+    // Here and below `n` comes from the heading and the kind from the record: a struct of the two would be made only to call these.
+
     // How many numbers its body holds with `n` variables, of which a question's first counts the pairs; at least so many in a rule.
     pub fn total(self, n: u16, first: u16) -> usize
         ensures { result ≡ total_of self n first }
     {
         match self {
-            Kind::Term => n as usize,
-            Kind::Close => 0,
+            Kind::Term | Kind::Strike => n as usize,
+            Kind::Close | Kind::Check => 0,
             Kind::Rule => n as usize + 1,
-            Kind::Check => 0,
             Kind::Question => first as usize * (n as usize + 1) + 1,
-            Kind::Strike => n as usize,
         }
     }
 

@@ -9,6 +9,7 @@ use crate::kind::Kind;
 use crate::number::{NumberCause, read_number};
 
 // A record's kind, and where its body begins and ends, counted from the record's first byte.
+// Two places and no Range, which is not Copy.
 #[derive(Clone, Copy)]
 pub struct Extent {
     pub kind: Kind,
@@ -32,6 +33,7 @@ fn check_body(kind: Kind, n: u16, place: Place, from: usize, body: &[u8]) -> Res
     let mut at = place.after(from);
     let mut j: usize = 0;
     let mut whole = kind.total(n, 0);
+    // A while: each number says itself how many bytes it takes, and under which limit depends on the count.
     while !rest.is_empty() {
         if kind.is_full(j, whole) {
             return Err(place.wrong_body());

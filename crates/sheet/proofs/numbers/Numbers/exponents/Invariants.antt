@@ -1,4 +1,4 @@
-use Rattle.std.proofs.Common.{◌≡◌, ℕ, min, ◌<◌, length, drop, get_or}
+use Rattle.std.proofs.Common.{◌≡◌, ℕ, min, ◌<◌, drop, get_or}
 use Rattle.sheet.specs.Numbers.{left}
 use Rattle.sheet.proofs.numbers.Numbers.exponents.Given as goal
 
