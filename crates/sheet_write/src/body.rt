@@ -1,18 +1,14 @@
-ghost use Rattle.std.specs.Prelude.{◌≡◌, ◌+◌, ◌≤◌, length};
-ghost use Rattle.sheet_write.specs.Writing.{flat, right_count, body_size, pasted};
+ghost use Rattle.std.specs.Prelude.{◌≡◌};
+ghost use Rattle.sheet_write.specs.Writing.{right_count, body_size};
 
-use crate::number::{number_size, put_number};
+use crate::number::number_size;
 use sheet::Kind;
 
 // Whether a body of the kind holds so many numbers.
 pub(crate) fn right_count(kind: Kind, n: u16, numbers: &[u16]) -> bool
     ensures { result ≡ right_count kind n numbers.now }
 {
-    let first = match numbers {
-        [] => 0,
-        [first, ..] => *first,
-    };
-    let total = kind.total(n, first);
+    let total = kind.total(n, numbers.first().copied().unwrap_or(0));
     match kind {
         Kind::Rule => total <= numbers.len(),
         _ => numbers.len() == total,
@@ -23,28 +19,15 @@ pub(crate) fn right_count(kind: Kind, n: u16, numbers: &[u16]) -> bool
 pub(crate) fn body_size(kind: Kind, n: u16, numbers: &[u16]) -> Option<usize>
     ensures { result ≡ body_size kind n numbers.now }
 {
-    let mut size: usize = 0;
-    for j in 0..numbers.len() {
-        if numbers[j] > kind.limit(n, j) {
+    let mut size = 0;
+    for (j, &number) in numbers.iter().enumerate() {
+        if number > kind.limit(n, j) {
             return None;
         }
-        size += number_size(numbers[j]);
+        size += number_size(number);
         if size > 65520 {
             return None;
         }
     }
     Some(size)
-}
-
-// Puts numbers at a place one after another, and answers the place after them.
-pub(crate) fn put_numbers(out: &mut [u8], at: usize, numbers: &[u16]) -> usize
-    requires { at + length (flat numbers.now) ≤ length out.old }
-    ensures value { result ≡ at + length (flat numbers.now) }
-    ensures after { out.new ≡ pasted at (flat numbers.now) out.old }
-{
-    let mut to = at;
-    for j in 0..numbers.len() {
-        to = put_number(out, to, numbers[j]);
-    }
-    to
 }

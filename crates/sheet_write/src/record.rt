@@ -3,8 +3,9 @@ ghost use Rattle.sheet.specs.Fault.{next};
 ghost use Rattle.sheet_write.specs.Laws.{ReadsAs};
 ghost use Rattle.sheet_write.specs.Writing.{BodySize, accepted, counted, write_record, answer, held, with_room};
 
-use crate::body::{body_size, put_numbers, right_count};
-use crate::number::{number_size, put_number};
+use crate::body::{body_size, right_count};
+use crate::number::number_size;
+use crate::writer::Writer;
 use sheet::{Kind, NumberCause, NumberFault, RecordFault, SheetFault};
 
 fn counted_size(kind: Kind, n: u16, numbers: &[u16]) -> Result<usize, RecordFault>
@@ -14,14 +15,11 @@ fn counted_size(kind: Kind, n: u16, numbers: &[u16]) -> Result<usize, RecordFaul
     if !right_count(kind, n, numbers) {
         return Err(RecordFault::WrongBody { byte: 0, record: 0 });
     }
-    match body_size(kind, n, numbers) {
-        Some(size) => Ok(size),
-        None => Err(RecordFault::Number(NumberFault {
-            cause: NumberCause::TooLarge,
-            byte: 0,
-            record: 0,
-        })),
-    }
+    body_size(kind, n, numbers).ok_or(RecordFault::Number(NumberFault {
+        cause: NumberCause::TooLarge,
+        byte: 0,
+        record: 0,
+    }))
 }
 
 // The length of the body of a record that can be written.
@@ -29,13 +27,11 @@ fn accepted_size(n: u16, kind: u16, numbers: &[u16]) -> Result<usize, RecordFaul
     ensures value { result ≡ accepted n kind numbers.now }
     ensures size { IfOk result (λ size. BodySize size numbers.now) }
 {
-    if n < 1 || n > 8 {
+    if !(1..=8).contains(&n) {
         return Err(RecordFault::WrongVariables);
     }
-    match Kind::of(kind) {
-        Some(known) => counted_size(known, n, numbers),
-        None => Err(RecordFault::UnknownKind { byte: 0, record: 0 }),
-    }
+    let kind = Kind::try_from(kind).map_err(|_| RecordFault::UnknownKind { byte: 0, record: 0 })?;
+    counted_size(kind, n, numbers)
 }
 
 // Writes a record at the front of the output, and answers how many bytes it takes.
@@ -50,7 +46,9 @@ pub fn write_record(n: u16, kind: u16, numbers: &[u16], out: &mut [u8]) -> Resul
     if total > out.len() {
         return Err(SheetFault::Record(RecordFault::ShortOutput));
     }
-    let from = put_number(out, 0, kind);
-    let body = put_number(out, from, length);
-    Ok(put_numbers(out, body, numbers))
+    let mut writer = Writer { out, at: 0 };
+    writer.number(kind);
+    writer.number(length);
+    writer.numbers(numbers);
+    Ok(writer.at)
 }

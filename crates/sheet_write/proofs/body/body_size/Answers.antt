@@ -1,14 +1,7 @@
-use Rattle.std.proofs.Common.{◌+◌, ◌<◌, ◌≤◌, length, get_or, sym, ap, ◌∙◌, arith}
+use Rattle.std.proofs.Common.{◌+◌, ◌≤◌, get_or, sym, ◌∙◌, arith}
 use Rattle.sheet.specs.Body.{limit_at}
-use Rattle.sheet_write.proofs.Flats.{flat_front, more_length, allowed_more, allowed_not, size_none, size_past, size_some, flat_all, allowed_all}
+use Rattle.sheet_write.proofs.Flats.{flat_front, more_length, allowed_more, size_past}
 use Rattle.sheet_write.proofs.body.body_size.Goals as goal
-
-pub returns-then-numbers-j : goal.returns-then-numbers-j
-returns-then-numbers-j c =
-    let xs = c.args.numbers.now in
-    let j = c.loop-j.j in
-    let high : limit_at c.args.kind c.args.n j < get_or xs j 0 = omega (arith, c.limit.ensures, c.if-numbers-j.true) in
-    size_none c.args.kind c.args.n xs (sym c.loop-j.invariant.2 ∙ allowed_not c.args.kind c.args.n xs j c.loop-j-test.true high)
 
 pub returns-then-size-gt65520 : goal.returns-then-size-gt65520
 returns-then-size-gt65520 c =
@@ -20,15 +13,8 @@ pub loop-j-preserved : goal.loop-j-preserved
 loop-j-preserved c =
     let xs = c.args.numbers.now in
     let j = c.loop-j.j in
-    let low : get_or xs j 0 ≤ limit_at c.args.kind c.args.n j = omega (arith, c.limit.ensures, c.if-numbers-j.false) in (
+    let low : get_or xs j 0 ≤ limit_at c.args.kind c.args.n j = omega (arith, c.limit.ensures, c.if-number-limit.false) in (
       omega (arith, more_length xs j c.loop-j-test.true, c.loop-j.invariant.0, c.number_size-size.ensures),
       c.if-size-gt65520.false,
       sym (allowed_more c.args.kind c.args.n xs j c.loop-j-test.true low) ∙ c.loop-j.invariant.2,
     )
-
-pub returns : goal.returns
-returns c =
-    let xs = c.args.numbers.now in
-    let j = c.loop-j.j in
-    size_some c.args.kind c.args.n xs c.loop-j.size (sym c.loop-j.invariant.2 ∙ allowed_all c.args.kind c.args.n xs j c.loop-j-test.false)
-    (c.loop-j.invariant.0 ∙ ap length (flat_all xs j c.loop-j-test.false)) c.loop-j.invariant.1
