@@ -1,21 +1,27 @@
 -- Numbers that come out one by one into an array or an output. Assumes nothing.
-use Rattle.std.proofs.Common.{◌≡◌, ℕ, ◌+◌, ◌-◌, ◌<◌, ◌≤◌, min, List, [], ◌∷◌, ◌++◌, length, get_or, take, drop, set, Some, None, Option, MatchOption, unwrap_or, sym, ap, ◌∙◌, ⊎_elim, append_assoc, add-zero, arith, length-append, length-drop}
+use Rattle.std.proofs.Common.{◌≡◌, ℕ, ◌+◌, ◌-◌, ◌<◌, ◌≤◌, min, List, [], ◌∷◌, ◌++◌, length, get_or, take, drop, set, Some, None, Option, MatchOption, unwrap_or, sym, refl, ap, ◌∙◌, ⊎_elim, append_assoc, add-zero, arith, length-append, length-drop}
 use Rattle.std.proofs.lemmas.Bool.{cases_lt, cond-true, cond-false, lt-ltb, le-ltb}
 use Rattle.std.proofs.lemmas.List.{take_more, drop_more, drop-drop, set_at, length-take-le, get_or-drop, get_or-replicate, get_or_append_left, get_or-append_right}
 use Rattle.std.proofs.lemmas.List.FromFn.{fill_by_all}
 use Rattle.std.specs.Prelude.{replicate}
-use Rattle.sheet.specs.Numbers.{exponent_at, exponents_of}
+use Rattle.sheet.specs.Numbers.{first, exponent_at, exponents_of}
 
--- the number that comes out is the element at the place, and the others are left
+-- the number that comes out is the first of those that were left, and the others are left
+pub next_first : (ys zs : List ℕ) (o : Option ℕ) → MatchOption o ((ys ≡ []) × (zs ≡ [])) (λ x. ys ≡ x ∷ zs) → (o ≡ first ys) × (zs ≡ drop 1 ys)
+next_first ys zs None h = (ap first (sym h.0), h.1 ∙ ap (drop 1) (sym h.0))
+next_first ys zs (Some x) h = (ap first (sym h), ap (drop 1) (sym h))
+
+first_or : (xs : List ℕ) → unwrap_or (first xs) 0 ≡ get_or xs 0 0
+first_or [] = refl
+first_or (x ∷ xs) = refl
+
+-- it is the element at the place
 pub next_at : (xs ys zs : List ℕ) (k : ℕ) (o : Option ℕ) → ys ≡ drop k xs → MatchOption o ((ys ≡ []) × (zs ≡ [])) (λ x. ys ≡ x ∷ zs) → (unwrap_or o 0 ≡ get_or xs k 0) × (zs ≡ drop (k + 1) xs)
 next_at xs ys zs k o e step =
-    let at : get_or (drop k xs) 0 0 ≡ get_or xs k 0 = get_or-drop k xs 0 0 ∙ ap (λ i. get_or xs i 0) (add-zero k) in
-    let on : drop 1 (drop k xs) ≡ drop (k + 1) xs = drop-drop 1 k xs in
-    elim o as (λ p. MatchOption p ((ys ≡ []) × (zs ≡ [])) (λ x. ys ≡ x ∷ zs) → (unwrap_or p 0 ≡ get_or xs k 0) × (zs ≡ drop (k + 1) xs)) [
-      | None ↦ λ h. (ap (λ l. get_or l 0 0) (sym h.0 ∙ e) ∙ at, h.1 ∙ ap (drop 1) (sym h.0 ∙ e) ∙ on)
-      | Some x ↦ λ h. (ap (λ l. get_or l 0 0) (sym h ∙ e) ∙ at, ap (drop 1) (sym h ∙ e) ∙ on)
-    ]
-    step
+    let came = next_first ys zs o step in (
+      ap (λ p. unwrap_or p 0) (came.0 ∙ ap first e) ∙ first_or (drop k xs) ∙ get_or-drop k xs 0 0 ∙ ap (λ i. get_or xs i 0) (add-zero k),
+      came.1 ∙ ap (drop 1) e ∙ drop-drop 1 k xs,
+    )
 
 -- the exponents that came out, and 0 for the others
 pub exponents_out : (xs out : List ℕ) (n : ℕ) → n ≤ 8 → length out ≡ n → ((k : ℕ) → k < n → get_or out k 0 ≡ min (get_or xs k 0) 255) → out ++ drop n (replicate 8 0) ≡ exponents_of n xs
