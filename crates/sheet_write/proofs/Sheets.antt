@@ -129,6 +129,9 @@ module _ (bytes : List ℕ) where
   abbrev pub then_field : State → Result Sheet SheetFault
   then_field s = next (heading_number s) (λ a. then_modulus a.0 (after_heading s))
 
+  by_calls : read_sheet bytes ≡ next (open_sheet bytes) then_field
+  by_calls = refl
+
 module _ (s : Sheet) (recs : List ℕ) (fits : HeadingFits s) (written : write_records s.variables s.records ≡ Ok recs) (short : length (sheet_bytes s recs) ≤ 65535) where
   abbrev bytes_of : List ℕ
   bytes_of = sheet_bytes s recs

@@ -17,7 +17,7 @@ pub fn write_heading(
 {
     let total = 3 + number_size(field) + number_size(modulus) + number_size(variables);
     if total > out.len() {
-        return Err(SheetFault::Record(RecordFault::ShortOutput));
+        return Err(RecordFault::ShortOutput.into());
     }
     let mut writer = Writer { out, at: 0 };
     writer.bytes(&OPENING);

@@ -23,7 +23,7 @@ pub fn write_number(value: u16, out: &mut [u8]) -> Result<usize, SheetFault>
     ensures reads { IfOk result (λ size. (limit : ℕ) → value ≤ limit → limit ≤ 65535 → read_number limit out.new ≡ Ok (value, size)) }
 {
     if number_size(value) > out.len() {
-        return Err(SheetFault::Record(RecordFault::ShortOutput));
+        return Err(RecordFault::ShortOutput.into());
     }
     let mut writer = Writer { out, at: 0 };
     writer.number(value);

@@ -35,6 +35,7 @@ fn accepted_size(n: u16, kind: u16, numbers: &[u16]) -> Result<usize, RecordFaul
 }
 
 // Writes a record at the front of the output, and answers how many bytes it takes.
+// The kind comes as any number and is refused as an unknown kind: a Kind would leave that to the caller.
 pub fn write_record(n: u16, kind: u16, numbers: &[u16], out: &mut [u8]) -> Result<usize, SheetFault>
     ensures value { result ≡ answer (next (write_record n kind numbers.now) (with_room out.old)) }
     ensures after { out.new ≡ held (next (write_record n kind numbers.now) (with_room out.old)) out.old }
@@ -44,7 +45,7 @@ pub fn write_record(n: u16, kind: u16, numbers: &[u16], out: &mut [u8]) -> Resul
     let length = size as u16;
     let total = number_size(kind) + number_size(length) + size;
     if total > out.len() {
-        return Err(SheetFault::Record(RecordFault::ShortOutput));
+        return Err(RecordFault::ShortOutput.into());
     }
     let mut writer = Writer { out, at: 0 };
     writer.number(kind);

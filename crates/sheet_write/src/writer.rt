@@ -11,6 +11,7 @@ pub(crate) struct Writer<'a> {
 }
 
 impl Writer<'_> {
+    // Puts the bytes and moves past them.
     pub(crate) fn bytes(&mut self, bytes: &[u8])
         requires { self.old.at + length bytes.now ≤ length self.old.out.now }
         ensures same { self.new.out.ghost_name ≡ self.old.out.ghost_name }
