@@ -33,7 +33,7 @@ fn check_body(kind: Kind, n: u16, place: Place, from: usize, body: &[u8]) -> Res
     let mut at = place.after(from);
     let mut j: usize = 0;
     let mut whole = kind.total(n, 0);
-    // A while: each number says itself how many bytes it takes, and under which limit depends on the count.
+    // A while: how many bytes a number takes is known once it is read, and its limit depends on how many came before.
     while !rest.is_empty() {
         if kind.is_full(j, whole) {
             return Err(place.wrong_body());

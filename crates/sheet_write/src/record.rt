@@ -1,26 +1,12 @@
 ghost use Rattle.std.specs.Prelude.{◌≡◌, ℕ, IfOk};
 ghost use Rattle.sheet.specs.Fault.{next};
 ghost use Rattle.sheet_write.specs.Laws.{ReadsAs};
-ghost use Rattle.sheet_write.specs.Writing.{BodySize, accepted, counted, write_record, answer, held, with_room};
+ghost use Rattle.sheet_write.specs.Writing.{BodySize, accepted, write_record, answer, held, with_room};
 
-use crate::body::{body_size, right_count};
+use crate::body::Body;
 use crate::number::number_size;
 use crate::writer::Writer;
-use sheet::{Kind, NumberCause, NumberFault, RecordFault, SheetFault};
-
-fn counted_size(kind: Kind, n: u16, numbers: &[u16]) -> Result<usize, RecordFault>
-    ensures value { result ≡ counted kind n numbers.now }
-    ensures size { IfOk result (λ size. BodySize size numbers.now) }
-{
-    if !right_count(kind, n, numbers) {
-        return Err(RecordFault::WrongBody { byte: 0, record: 0 });
-    }
-    body_size(kind, n, numbers).ok_or(RecordFault::Number(NumberFault {
-        cause: NumberCause::TooLarge,
-        byte: 0,
-        record: 0,
-    }))
-}
+use sheet::{Kind, RecordFault, SheetFault};
 
 // The length of the body of a record that can be written.
 fn accepted_size(n: u16, kind: u16, numbers: &[u16]) -> Result<usize, RecordFault>
@@ -31,7 +17,7 @@ fn accepted_size(n: u16, kind: u16, numbers: &[u16]) -> Result<usize, RecordFaul
         return Err(RecordFault::WrongVariables);
     }
     let kind = Kind::try_from(kind).map_err(|_| RecordFault::UnknownKind { byte: 0, record: 0 })?;
-    counted_size(kind, n, numbers)
+    Body { kind, n, numbers }.counted_size()
 }
 
 // Writes a record at the front of the output, and answers how many bytes it takes.
