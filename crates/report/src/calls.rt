@@ -17,7 +17,7 @@ fn codes(heap: Global, numbers: &mut Numbers<'_>) -> Result<Vec<u16>, AllocError
     ensures { IfOk result (λ v. v.items ≡ left numbers.old) }
 {
     let mut codes = Vec::new(heap);
-    while let Some(code) = numbers.number() {
+    while let Some(code) = numbers.next() {
         codes.push(code)?;
     }
     Ok(codes)
@@ -35,7 +35,7 @@ fn rule_call(heap: Global, n: u16, body: &[u8]) -> Result<Call, AllocError>
 {
     let mut numbers = Numbers::of(body);
     let term = numbers.exponents(n);
-    let lead = numbers.number().unwrap_or(0);
+    let lead = numbers.next().unwrap_or(0);
     let row = codes(heap, &mut numbers)?;
     Ok(Call::Rule(Given { term, lead, row }))
 }
@@ -44,10 +44,10 @@ fn pairs(heap: Global, n: u16, body: &[u8]) -> Result<Vec<(u16, Term)>, AllocErr
     ensures { IfOk result (λ v. v.items ≡ pairs_from (min n 8) (slice_index (numbers_of body.now) 0) (drop 1 (numbers_of body.now))) }
 {
     let mut numbers = Numbers::of(body);
-    let count = numbers.number().unwrap_or(0);
+    let count = numbers.next().unwrap_or(0);
     let mut pairs = Vec::new(heap);
     for _k in 0..count {
-        let code = numbers.number().unwrap_or(0);
+        let code = numbers.next().unwrap_or(0);
         let term = numbers.exponents(n);
         pairs.push((code, term))?;
     }

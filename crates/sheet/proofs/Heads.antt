@@ -1,9 +1,8 @@
 -- How a record's kind and length are read. Assumes nothing.
-use Rattle.std.proofs.Common.{◌≡◌, ℕ, ◌+◌, ◌<◌, ◌≤◌, List, length, drop, Some, Ok, Err, Result, sym, refl, ap, ◌∙◌, arith}
-use Rattle.std.proofs.lemmas.Bool.{cond-true, cond-false, le-leb, lt-leb}
+use Rattle.std.proofs.Common.{◌≡◌, ℕ, ◌+◌, ◌≤◌, List, length, drop, Some, Ok, Err, Result, sym, refl, ap, ◌∙◌, arith}
+use Rattle.std.proofs.lemmas.Bool.{cond-true, le-leb}
 use Rattle.sheet.specs.declared.fault.NumberFault.{NumberFault}
 use Rattle.sheet.specs.declared.fault.RecordFault.{RecordFault}
-use Rattle.sheet.specs.declared.fault.RecordFault.TheVariants.{WrongBody}
 use Rattle.sheet.specs.declared.kind.Kind.{Kind}
 use Rattle.sheet.specs.declared.record.Extent.{Extent}
 use Rattle.sheet.specs.Fault.{in_record, next}
@@ -30,9 +29,6 @@ module _ (bytes : List ℕ) (start count : ℕ) where
 
   pub body_inside : (kind : Kind) (from to : ℕ) → to ≤ length bytes → inside start count kind from to bytes ≡ Ok (record { kind = kind; from = from; to = to })
   body_inside kind from to h = cond-true _ _ _ (le-leb to (length bytes) h)
-
-  pub body_past : (kind : Kind) (from to : ℕ) → length bytes < to → inside start count kind from to bytes ≡ Err (WrongBody start count)
-  body_past kind from to h = cond-false _ _ _ (lt-leb to (length bytes) h)
 
 -- what was read to the end was read to the end of its first part
 pub next_ok : {A B E : Type 0} (r : Result A E) (f : A → Result B E) (b : B) → next r f ≡ Ok b → (a : A) × (r ≡ Ok a) × (f a ≡ Ok b)

@@ -1,6 +1,5 @@
 pub mod Bodies
 pub mod Copies
-pub mod Cuts
 pub mod Digits
 pub mod Heads
 pub mod Lists

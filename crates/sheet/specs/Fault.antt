@@ -10,6 +10,10 @@ use Rattle.sheet.specs.declared.fault.SheetFault.TheVariants.{Record, WrongOpeni
 use Rattle.sheet.specs.declared.fault.Layer.{Layer}
 use Rattle.sheet.specs.declared.fault.Layer.TheVariants as layer
 
+-- what a number's fault says at a byte of a record
+abbrev pub fault_at : ℕ → ℕ → NumberCause → NumberFault
+fault_at byte count cause = record { cause = cause; byte = byte; «record» = count }
+
 abbrev pub cause_number : NumberCause → ℕ
 cause_number Unfinished = 18
 cause_number NotShortest = 19

@@ -1,7 +1,7 @@
 use Rattle.std.proofs.Common.{◌≡◌, min, drop, ap, ◌∙◌}
 use Rattle.run.specs.Calls.{rule}
 use Rattle.sheet.specs.Numbers.{left, numbers_of, exponents_of}
-use Rattle.sheet.proofs.Copies.{out_at, drop_one}
+use Rattle.sheet.proofs.Copies.{next_at}
 use Rattle.report.proofs.calls.rule_call.Goals as goal
 
 pub returns : goal.returns
@@ -11,6 +11,7 @@ returns c =
     let all : left c.of-numbers.result ≡ xs = ap numbers_of c.of-numbers.ensures in
     let rest : left c.exponents-term.new.self ≡ drop n xs = c.exponents-term.ensures.after ∙ ap (drop n) all in
     let term = c.exponents-term.ensures.value ∙ ap (exponents_of n) all in
-    let lead = out_at xs (left c.exponents-term.new.self) n c.number.result c.unwrap_or-lead.result rest c.number.ensures.value c.unwrap_or-lead.ensures in
-    let row = c.in_ok-row.ensures ∙ drop_one xs (left c.exponents-term.new.self) (left c.number.new.self) n rest c.number.ensures.after in
+    let came = next_at xs (left c.exponents-term.new.self) (left c.next.new.self) n c.next.result rest c.next.ensures.steps in
+    let lead = c.unwrap_or-lead.ensures ∙ came.0 in
+    let row = c.in_ok-row.ensures ∙ came.1 in
     (λ i. rule (term i) (lead i) (row i))
