@@ -1,9 +1,14 @@
 use Rattle.std.proofs.Common.{rules, ℕ, vec_items, ap, ◌∙◌}
 use Rattle.std.proofs.lemmas.List.{with_items_is}
-use Rattle.run.specs.declared.call.Answer.TheVariants.{Done, Formed, Counted}
+use Rattle.run.specs.declared.call.Answer.TheVariants.{Done, Checked, Formed, Counted}
 use Rattle.run.specs.Calls.{check, form, cofactor, table}
 use Rattle.run.proofs.Renaming.{mapped_is, on_grant_one, on_grant_two}
 use Rattle.run.proofs.running.perform.Goals as goal
+
+pub returns-in-Check-clause-answer : goal.returns-in-Check-clause-answer
+returns-in-Check-clause-answer g c =
+    let said = rw (c.deref_mut.ensures.value, c.deref_mut-in-Check.ensures.value) at c.check.ensures.answer in
+    rw c.in-Check.is (mapped_is (λ v. Checked v) _ (λ x y p. search rules) _ _ _ _ c.map-in-Check.ensures.cases said)
 
 pub returns-in-Check-clause-finish : goal.returns-in-Check-clause-finish
 returns-in-Check-clause-finish g c =
