@@ -14,9 +14,10 @@ use Rattle.book.specs.declared.refusal.Refusal.TheVariants.{WrongPhase, NoTerms}
 use Rattle.book.specs.Phases.{allowed}
 use Rattle.book.specs.Judge.{refuse, refuse_phase, judge_close, granted}
 use Rattle.book.specs.Effects.{closed}
-use Rattle.book.specs.Kept.{terms_of, kept_rows, rows_of, terms_fit, led, all_long, kept, ledger}
+use Rattle.book.specs.Kept.{terms_of, kept_rows, rows_of, led, all_long, kept, ledger}
 use Rattle.book.proofs.Granting.{none_from, refuse_none}
 use Rattle.book.proofs.Keeping.{facts, keep}
+use Rattle.book.proofs.Ready.{fit_connected}
 
 -- contents that are closed with a border and rules
 abbrev pub shut : Contents → Border → Rules → Contents
@@ -45,12 +46,12 @@ some_terms k e =
     let q = refuse_none (eqb (length (terms_of k)) 0) NoTerms None p.1 in
     eqb-false (length (terms_of k)) 0 q.0
 
-fit_connected : (n : ℕ) (S : List Term) → terms_fit n S ≡ true → (length S ≡ 0 → ⊥) → connected n S ≡ true
-fit_connected n [] f some = absurd (some refl)
-fit_connected n (t ∷ ts) f some = f
+at_least_one : (m : ℕ) → (m ≡ 0 → ⊥) → 1 ≤ m
+at_least_one zero ne = absurd (ne refl)
+at_least_one (suc m) ne = omega arith
 
 pub close_connected : (k : Contents) → kept k ≡ true → judge_close (ledger k) ≡ None → connected k.basis.variables (terms_of k) ≡ true
-close_connected k h e = fit_connected k.basis.variables (terms_of k) (facts k h).fit (some_terms k e)
+close_connected k h e = fit_connected k.basis.variables (terms_of k) (at_least_one (length (terms_of k)) (some_terms k e)) (facts k h).fit
 
 -- no term of a list has a rule
 no_rows : (D : ℕ) (es : List Term) → kept_rows D (replicate (length es) None) ≡ map (λ (_ : Term). None) es
@@ -92,7 +93,3 @@ module _ (k : Contents) (b : Border) (r : Rules) (h : kept k ≡ true) (e : judg
             });
         is_ledger = λ i. record { variables = n; terms = S; phase = Closed; rows = rows i };
       }
-    where
-      at_least_one : (m : ℕ) → (m ≡ 0 → ⊥) → 1 ≤ m
-      at_least_one zero ne = absurd (ne refl)
-      at_least_one (suc m) ne = omega arith

@@ -26,7 +26,7 @@ pushed k t = record {
 }
 
 -- only an open book takes terms
-open_for_terms : (p : Phase) → allowed p AddTerm ≡ true → p ≡ Open
+pub open_for_terms : (p : Phase) → allowed p AddTerm ≡ true → p ≡ Open
 open_for_terms Open h = refl
 open_for_terms Closed h = absurd (both_ways false refl h)
 open_for_terms Sound h = absurd (both_ways false refl h)

@@ -7,23 +7,20 @@ use Rattle.algebra.proofs.Terms.{same_refl, same_sym, same_true}
 use Rattle.algebra.proofs.Borders.{Distinct, connected_distinct, get_or_has}
 use Rattle.row.specs.Sums.{zeros_like}
 use Rattle.row.specs.Leads.{given_rows}
-use Rattle.algebra.specs.Term.{Term, next_place, same, has}
+use Rattle.algebra.specs.Term.{Term, same, has}
 use Rattle.algebra.specs.Border.{Row, border, connected, AreRows, LawfulSystem}
 use Rattle.row.specs.declared.lead.Lead.{Lead}
 use Rattle.term.specs.Search.{first_place}
 use Rattle.book.specs.declared.contents.Contents.{Contents}
 use Rattle.book.specs.declared.phase.Phase.{Phase}
 use Rattle.book.specs.declared.phase.Phase.TheVariants.{Open, Closed, Sound, Clash}
+use Rattle.book.proofs.Searching.{next_zero}
 use Rattle.book.specs.Judge.{missing}
 use Rattle.book.specs.Ledger.{system}
 use Rattle.book.specs.Leading.{leads_of}
 use Rattle.book.specs.Kept.{terms_of, border_of, kept_rows, rows_of, terms_fit, border_in, led, led_in, complete_in, all_long, kept, ledger, ready, is_closed}
 use Rattle.book.proofs.Bridge.{Stored, Led}
 use Rattle.book.proofs.Keeping.{facts, column}
-
-next_zero : (k : ℕ) → next_place k ≡ 0 → k ≡ 0
-next_zero zero e = refl
-next_zero (suc k) e = absurd (omega arith)
 
 -- where no row is missing, the first is there and none of the others is missing
 none_missing : (o : Option Row) (os : List (Option Row)) → first_place missing (o ∷ os) ≡ 0 → (missing o ≡ false) × (first_place missing os ≡ 0)
@@ -76,7 +73,7 @@ closed_some Closed S rows h c = c
 closed_some Sound S rows h c = (and_parts _ _ c).0
 closed_some Clash S rows h c = c
 
-fit_connected : (n : ℕ) (S : List Term) → 1 ≤ length S → terms_fit n S ≡ true → connected n S ≡ true
+pub fit_connected : (n : ℕ) (S : List Term) → 1 ≤ length S → terms_fit n S ≡ true → connected n S ≡ true
 fit_connected n [] h f = absurd (omega arith)
 fit_connected n (t ∷ ts) h f = f
 

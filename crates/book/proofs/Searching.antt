@@ -6,6 +6,7 @@ use Rattle.std.proofs.lemmas.Bool.{cond-true, cond-false}
 use lib.Dec.{eqb-suc-zero}
 use Rattle.algebra.specs.Term.{Term, same, has, place, next_place}
 use Rattle.term.specs.Search.{first_place, found}
+use Rattle.term.proofs.Places.{place_first}
 
 not_zero_next : (k : ℕ) → not (eqb (next_place k) 0) ≡ not (eqb k 0)
 not_zero_next zero = refl
@@ -29,9 +30,10 @@ first_place_within f (x ∷ xs) = go (f x) (first_place f xs) (first_place_withi
     go false zero h = omega arith
     go false (suc k) h = omega arith
 
-pub place_first : (t : Term) (ts : List Term) → first_place (same t) ts ≡ place t ts
-place_first t [] = refl
-place_first t (u ∷ ts) = ap (λ (k : ℕ). cond (same t u) 1 (next_place k)) (place_first t ts)
+-- a place that is none stays none
+pub next_zero : (k : ℕ) → next_place k ≡ 0 → k ≡ 0
+next_zero zero e = refl
+next_zero (suc k) e = absurd (omega arith)
 
 -- no element before place k passes
 abbrev pub PassedOver : {X : Type 0} → (X → Bool) → List X → ℕ → Type 0

@@ -1,4 +1,5 @@
-ghost use Rattle.std.specs.Prelude.{◌≡◌, true};
+ghost use Rattle.std.specs.Prelude.{◌≡◌, ◌≤◌, true};
+ghost use Rattle.algebra.specs.Border.{connected};
 ghost use Rattle.book.specs.Ledger.{new_ledger};
 ghost use Rattle.book.specs.Kept.{ledger, kept};
 
@@ -11,6 +12,14 @@ use row::Lead;
 pub struct Basis {
     pub variables: usize,
     pub terms: Terms<32>,
+}
+
+// A set that is connected to 1, in at most eight variables: the product of a variable and a term of it stays within its bytes.
+#[derive(Drop)]
+pub struct Connected<'a> {
+    pub basis: &'a Basis,
+    ghost few: { basis.now.variables ≤ 8 },
+    ghost linked: { connected basis.now.variables basis.now.terms ≡ true },
 }
 
 // For each variable, where its products with the terms of S lead.

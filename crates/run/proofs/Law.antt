@@ -3,9 +3,9 @@ use Rattle.std.proofs.Common.{◌≡◌, ℕ, zero, suc, ◌-◌, ◌*◌, ◌<�
 use Rattle.std.proofs.lemmas.List.{length-map, length-set, get_or-set_same}
 use Rattle.std.proofs.lemmas.Bool.{both_ways, and_parts, leb-true, eqb-false, cases_lt}
 use Rattle.field.specs.Arithmetic.{Arithmetic, ring, Lawful}
-use Rattle.algebra.specs.Term.{Term, has, place, zero_past, next_place}
+use Rattle.algebra.specs.Term.{Term, has, place, zero_past}
 use Rattle.algebra.specs.Polynomial.{Polynomial, Over}
-use Rattle.algebra.specs.Border.{Row, System, connected, AreRows, LawfulSystem}
+use Rattle.algebra.specs.Border.{Row, System, AreRows, LawfulSystem}
 use Rattle.algebra.specs.Walk.{normal_form, all_zero}
 use Rattle.algebra.specs.Clash.{first_clash}
 use Rattle.algebra.specs.Theorems.{Independent}
@@ -23,6 +23,9 @@ use Rattle.book.specs.Ledger.{Ledger, new_ledger, edge, system}
 use Rattle.book.specs.Effects.{phase_of, verdict, kept_row, yes_no}
 use Rattle.book.specs.Kept.{terms_fit, is_closed}
 use Rattle.book.proofs.Adding.{fit_more}
+use Rattle.book.proofs.Searching.{next_zero}
+use Rattle.book.proofs.Ready.{fit_connected}
+use Rattle.book.proofs.Filling.{open_for_terms}
 use Rattle.book.proofs.Granting.{refuse_none, refuse_at_none, not_false_true}
 use Rattle.book.proofs.Admitting.{rule_admitted, strike_admitted, check_admitted, form_admitted, cofactors_admitted}
 use Rattle.book.proofs.Meaning.{over_from, verdict_means, form_means, cofactors_mean}
@@ -61,27 +64,13 @@ not_closed p e h = absurd (both_ways false refl (sym (ap is_closed e) ∙ h))
 not_sound : {X : Type 0} (p : Phase) → is_sound p ≡ false → p ≡ Sound → X
 not_sound p e h = absurd (both_ways (is_sound p) e (ap is_sound h))
 
-open_phase : (p : Phase) → allowed p AddTerm ≡ true → p ≡ Open
-open_phase Open h = refl
-open_phase Closed h = absurd (both_ways false refl h)
-open_phase Sound h = absurd (both_ways false refl h)
-open_phase Clashing h = absurd (both_ways false refl h)
-
 pub new_kept : (A : Arithmetic) → Kept A new_ledger
 new_kept A = record { few = omega arith; fit = refl; shaped = λ h. absurd (both_ways false refl h); sound = not_sound Open refl }
-
-next_zero : (k : ℕ) → next_place k ≡ 0 → k ≡ 0
-next_zero zero e = refl
-next_zero (suc k) e = absurd (omega arith)
 
 rows_given : (S : List Term) (os : List (Option Row)) → Long (length S) os → first_place missing os ≡ 0 → AreRows S (map (λ (o : Option Row). unwrap_or o []) os)
 rows_given S [] l z = tt
 rows_given S (None ∷ os) l z = absurd (omega arith)
 rows_given S (Some r ∷ os) l z = (l.0, rows_given S os l.1 (next_zero _ z))
-
-fit_connected : (n : ℕ) (S : List Term) → 1 ≤ length S → terms_fit n S ≡ true → connected n S ≡ true
-fit_connected n [] h f = absurd (omega arith)
-fit_connected n (t ∷ ts) h f = f
 
 -- a closed ledger that lacks no rule is a lawful system
 lawful_system : (A : Arithmetic) (L : Ledger) → Kept A L → is_closed L.phase ≡ true → first_place missing L.rows ≡ 0 → LawfulSystem (system L)
@@ -128,7 +117,7 @@ changed_kept A L k (lay n) e =
     record { few = leb-true n 8 q.1; fit = refl; shaped = λ h. absurd (both_ways false refl h); sound = not_sound Open refl }
 changed_kept A L k (term t) e =
     let p = refuse_none (not (allowed L.phase AddTerm)) WrongPhase _ e in
-    let o = open_phase L.phase (not_false_true _ p.0) in
+    let o = open_for_terms L.phase (not_false_true _ p.0) in
     let q = refuse_none (not (zero_past L.variables t)) (ExponentPastVariables 1) _ p.1 in
     let new = refuse_none (has t L.terms) TermPresent _ q.1 in
     let join = refuse_none (not (joins L.variables L.terms t)) TermNotJoined _ new.1 in
@@ -202,7 +191,7 @@ next_stands A b L tie s = go (judge A L s) refl s refl
   where
     after : (s : Step) → judge A L s ≡ None → stands_after b s (value A L s) ≡ is_sound (changed A L s).phase
     after (lay n) e = refl
-    after (term t) e = sym (ap is_sound (open_phase L.phase (not_false_true _ (refuse_none (not (allowed L.phase AddTerm)) WrongPhase _ e).0)))
+    after (term t) e = sym (ap is_sound (open_for_terms L.phase (not_false_true _ (refuse_none (not (allowed L.phase AddTerm)) WrongPhase _ e).0)))
     after close e = refl
     after (rule x k r) e = refl
     after (strike x) e = refl

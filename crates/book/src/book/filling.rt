@@ -5,7 +5,7 @@ ghost use Rattle.book.specs.Effects.{laid, with_term, closed};
 ghost use Rattle.book.specs.Kept.{ledger};
 
 use crate::book::Book;
-use crate::contents::Contents;
+use crate::contents::{Connected, Contents};
 use crate::phase::{Event, Phase};
 use crate::refusal::Refusal;
 use algebra::Term;
@@ -98,7 +98,10 @@ impl<F: Field> Book<F> {
         ensures field { self.new.field ≡ self.old.field }
     {
         self.judge_close()?;
-        self.contents.border.lay(&self.contents.basis);
+        let set = Connected {
+            basis: &self.contents.basis,
+        };
+        self.contents.border.lay(&set);
         self.contents.rules.clear();
         let count = self.contents.border.terms.len();
         self.contents.phase = Phase::Closed;

@@ -9,10 +9,10 @@ use Rattle.book.proofs.Keeping.{facts}
 use Rattle.book.proofs.Closing.{close_judged, close_connected, shut_kept}
 use Rattle.book.proofs.book.Book.close.Goals as goal
 
-pub lay-requires : goal.lay-requires
-lay-requires g c =
+pub invariant_of-set : goal.invariant_of-set
+invariant_of-set g c =
     let k = c.args.self.now.contents in
-    ((facts k c.args.self.now.kept).few_variables, close_connected k c.args.self.now.kept (close_judged k _ c.in_ok-judge_close.ensures))
+    record { few = (facts k c.args.self.now.kept).few_variables; linked = close_connected k c.args.self.now.kept (close_judged k _ c.in_ok-judge_close.ensures) }
 
 pub invariant_of-self : goal.invariant_of-self
 invariant_of-self g c =

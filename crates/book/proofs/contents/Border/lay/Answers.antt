@@ -13,7 +13,7 @@ lay_products-requires-clause-within c =
 
 pub loop-t-preserved : goal.loop-t-preserved
 loop-t-preserved c =
-    let b = c.args.basis.now in
+    let b = c.args.set.now.basis.now in
     let same = c.as_slice-t-items.ensures.value in
     record {
       terms = border_more b.variables c.loop-t.t-index b.terms c.loop-t.self.terms c.lay_products.new.self.terms (omega (arith, c.loop-t-test.true, ap (λ (ts : List Term). length ts) same)) c.loop-t.invariant.terms
@@ -23,4 +23,4 @@ loop-t-preserved c =
 
 pub returns-clause-leads : goal.returns-clause-leads
 returns-clause-leads c =
-    led_all c.args.basis.now.terms c.loop-i.self.terms c.args.basis.now.variables c.loop-i.self.leads.columns (λ k l. c.loop-i.invariant.columns k (omega (arith, c.loop-i-test.false)))
+    led_all c.args.set.now.basis.now.terms c.loop-i.self.terms c.args.set.now.basis.now.variables c.loop-i.self.leads.columns (λ k l. c.loop-i.invariant.columns k (omega (arith, c.loop-i-test.false)))

@@ -7,12 +7,12 @@ use Rattle.book.proofs.contents.Border.lay.Given as goal
 
 abbrev pub invariant-loop-t : goal.invariant-loop-t
 invariant-loop-t l = record {
-  terms : border l.basis.variables l.basis.terms ≡ extended l.basis.terms l.self.terms (multiples l.basis.variables (drop l.t-index l.basis.terms));
+  terms : border l.set.basis.now.variables l.set.basis.now.terms ≡ extended l.set.basis.now.terms l.self.terms (multiples l.set.basis.now.variables (drop l.t-index l.set.basis.now.terms));
   bound : length l.self.terms ≤ 8 * l.t-index;
 }
 
 abbrev pub invariant-loop-i : goal.invariant-loop-i
 invariant-loop-i l = record {
-  terms : l.self.terms ≡ border l.basis.variables l.basis.terms;
-  columns : (k : ℕ) → k < l.i → begins (leads_of l.basis.terms l.self.terms k l.basis.terms) (get_or l.self.leads.columns k []) ≡ true;
+  terms : l.self.terms ≡ border l.set.basis.now.variables l.set.basis.now.terms;
+  columns : (k : ℕ) → k < l.i → begins (leads_of l.set.basis.now.terms l.self.terms k l.set.basis.now.terms) (get_or l.self.leads.columns k []) ≡ true;
 }
