@@ -40,6 +40,7 @@ fn rule_call(heap: Global, n: u16, body: &[u8]) -> Result<Call, AllocError>
     Ok(Call::Rule(Given { term, lead, row }))
 }
 
+// By a loop: of a closure that takes numbers out as it goes, the prover knows no result.
 fn pairs(heap: Global, n: u16, body: &[u8]) -> Result<Vec<(u16, Term)>, AllocError>
     ensures { IfOk result (λ v. v.items ≡ pairs_from (min n 8) (slice_index (numbers_of body.now) 0) (drop 1 (numbers_of body.now))) }
 {

@@ -1,28 +1,37 @@
-ghost use Rattle.std.specs.Prelude.{◌≡◌, [], ◌∷◌, ◌++◌, IfOk, OnOk, MatchResult};
+ghost use Rattle.std.specs.Prelude.{◌≡◌, [], ◌∷◌, ◌++◌, IfOk, IfSome, OnOk, MatchResult};
 ghost use Rattle.tables.specs.Page.{page};
 ghost use Rattle.tables.specs.Text.{refused as refused_text, no_pair, answered as answered_text, answer as answer_text, lines, answers as answers_text};
 
 use crate::cut::cut;
-use crate::pages::push_page;
+use crate::pages::PageOf;
 use crate::request::{Request, RequestError};
 use field::{Binary, Field, Prime, Refusal};
 use std::alloc::{AllocError, Global};
+use std::fmt;
+
+fn push_text<D: fmt::Display + Drop>(out: &mut Vec<u8>, value: D) -> Result<(), AllocError>
+    ensures { OnOk result (IfSome (D.output value) (λ bs. out.new.items ≡ out.old.items ++ bs)) }
+{
+    let text = format!(in *out.allocator(); "{value}")?;
+    out.extend_from_slice(text.as_bytes())
+}
 
 fn push_refused(out: &mut Vec<u8>, refusal: Refusal) -> Result<(), AllocError>
     ensures { OnOk result (out.new.items ≡ out.old.items ++ refused_text) }
 {
-    let number = refusal.number();
-    let text = format!(in *out.allocator(); "refused {number}: no such field\n")?;
-    out.extend_from_slice(text.as_bytes())
+    push_text(
+        out,
+        format_args!("refused {}: no such field\n", refusal.number()),
+    )
 }
 
 fn push_no_pair(out: &mut Vec<u8>, number: usize) -> Result<(), AllocError>
     ensures { OnOk result (out.new.items ≡ out.old.items ++ no_pair number) }
 {
-    let text = format!(in *out.allocator();
-        "line {number}: expected a field kind and its number, as in `prime 5`\n"
-    )?;
-    out.extend_from_slice(text.as_bytes())
+    push_text(
+        out,
+        format_args!("line {number}: expected a field kind and its number, as in `prime 5`\n"),
+    )
 }
 
 // The page of a field, where it was made.
@@ -30,7 +39,7 @@ fn push_made<F: Field + Drop>(out: &mut Vec<u8>, made: Result<F, Refusal>) -> Re
     ensures { OnOk result (MatchResult made (λ f. out.new.items ≡ out.old.items ++ page (F.Field.meaning f)) (λ _. out.new.items ≡ out.old.items ++ refused_text)) }
 {
     match made {
-        Ok(f) => push_page(out, &f),
+        Ok(f) => push_text(out, PageOf(&f)),
         Err(refusal) => push_refused(out, refusal),
     }
 }

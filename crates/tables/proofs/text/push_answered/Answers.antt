@@ -1,4 +1,4 @@
-use Rattle.std.proofs.Common.{◌≡◌, ℕ, Bool, cond, List, ◌++◌, Ok, Err, Result, is_ok, OnOk, MatchResult, sym, ap, ◌∙◌, rules}
+use Rattle.std.proofs.Common.{◌≡◌, ℕ, Bool, cond, List, ◌++◌, Ok, Err, Result, is_ok, OnOk, MatchResult, sym, ap, ◌∙◌, subst, rules}
 use Rattle.std.proofs.lemmas.Bool.{cond-true, cond-false}
 use Rattle.field.specs.Arithmetic.{Arithmetic}
 use Rattle.field.specs.Supplied.{modulo, binary}
@@ -6,7 +6,6 @@ use Rattle.field.specs.Made.{modulus, size}
 use Rattle.tables.specs.declared.request.Request.TheVariants.{PrimeField, BinaryField}
 use Rattle.tables.specs.Page.{page}
 use Rattle.tables.specs.Text.{refused, answered}
-use Rattle.tables.proofs.Pushes.{made_same}
 use Rattle.tables.proofs.text.push_answered.Goals as goal
 
 -- the page of a field that was made is the answer to its number
@@ -18,6 +17,10 @@ made_page kind number (Err _) made asked listed was now bad ok same h = tt
 made_page kind number (Ok _) (Ok f) asked listed was now bad ok same h =
     h ∙ ap (λ n. was ++ page (kind n)) same ∙ ap (λ bs. was ++ bs) (sym (cond-true listed _ _ (sym ok)))
 made_page kind number (Ok _) (Err _) asked listed was now bad ok same h = h ∙ ap (λ bs. was ++ bs) (sym (cond-false listed _ _ (sym ok)))
+
+-- the answer that is asked for is the one that was pushed
+made_same : {T E : Type 0} (r : Result T E) (was now : List ℕ) {ys zs : List ℕ} → ys ≡ zs → OnOk r (now ≡ was ++ ys) → OnOk r (now ≡ was ++ zs)
+made_same r was now e h = subst (λ xs. OnOk r (now ≡ was ++ xs)) e h
 
 pub returns-in-Ok-PrimeField : goal.returns-in-Ok-PrimeField
 returns-in-Ok-PrimeField c =
