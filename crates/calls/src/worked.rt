@@ -197,7 +197,7 @@ pub fn limits(heap: Global) -> Result<Vec<Line>, AllocError> {
     let mut script = Script::new(heap);
     script.call(Call::Lay(1))?;
     script.call(Call::Close)?;
-    for k in 0..33u8 {
+    for k in 0..33 {
         script.call(Call::Term(xy(k, 0)))?;
     }
     script.call(Call::Term(xy(5, 0)))?;

@@ -150,10 +150,8 @@ mod tests {
     #[test]
     fn primes_agree(rt: HostRuntime) -> Result<(), Fail> {
         for p in [2, 3, 5, 7, 11, 13, 17, 19, 23, 29, 31] {
-            match Prime::new(p) {
-                Ok(f) => agrees(&rt, &f, &Counted(p)),
-                Err(_) => return Err(Fail::new("no such prime field")),
-            }
+            let f = Prime::new(p).map_err(|_| Fail::new("no such prime field"))?;
+            agrees(&rt, &f, &Counted(p));
         }
         Ok(())
     }
@@ -161,10 +159,8 @@ mod tests {
     #[test]
     fn binary_fields_agree(rt: HostRuntime) -> Result<(), Fail> {
         for (k, order, reduction) in [(2, 4, 0b111), (3, 8, 0b1011), (4, 16, 0b10011)] {
-            match Binary::new(k) {
-                Ok(f) => agrees(&rt, &f, &Polynomials { order, reduction }),
-                Err(_) => return Err(Fail::new("no such binary field")),
-            }
+            let f = Binary::new(k).map_err(|_| Fail::new("no such binary field"))?;
+            agrees(&rt, &f, &Polynomials { order, reduction });
         }
         Ok(())
     }
@@ -175,7 +171,7 @@ mod tests {
     }
 
     fn refused(rt: &impl Abort, refusal: Refusal) {
-        assert!(rt; matches!(refusal, Refusal::UnknownField));
+        assert_eq!(rt; refusal, Refusal::UnknownField);
         assert_eq!(rt; refusal.number(), 17);
     }
 

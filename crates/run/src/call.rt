@@ -24,6 +24,7 @@ pub enum Call {
 }
 
 // What a granted call answers. A call with no answer of its own is done, which counts as 0.
+// `Counted` keeps the 1 for yes or 0 for no that the book answers, so that every answer is the book's.
 #[derive(Clone, Copy, Drop)]
 pub enum Answer {
     Done,
