@@ -33,7 +33,7 @@ impl Sink for Count {
     }
 }
 
-// An output that is filled from its front.
+// An output that is filled from its front. The writer of `sheet_write` does the same and is private there, since what it puts has to fit.
 #[derive(Drop)]
 pub(crate) struct Front<'a> {
     pub(crate) out: &'a mut [u8],

@@ -1,13 +1,10 @@
 -- The numbers of a record taken one after another. Assumes nothing.
-use Rattle.std.proofs.Common.{◌≡◌, ℕ, suc, List, [], ◌∷◌, ◌++◌, get_or, drop, unwrap_or, sym, refl, ap, ◌∙◌, append_assoc, append-nil}
+use Rattle.std.proofs.Common.{◌≡◌, ℕ, suc, List, [], ◌∷◌, ◌++◌, get_or, drop, unwrap_or, sym, ap, ◌∙◌, append_assoc, append-nil}
 use Rattle.algebra.specs.Term.{Term}
 use Rattle.algebra.specs.Polynomial.{Polynomial}
 use Rattle.sheet.specs.Numbers.{first, exponents_of}
+use Rattle.sheet.proofs.Copies.{first_or}
 use Rattle.report.specs.Calls.{pairs_from}
-
-first_or : (xs : List ℕ) → unwrap_or (first xs) 0 ≡ get_or xs 0 0
-first_or [] = refl
-first_or (x ∷ xs) = refl
 
 -- one more pair is pushed
 pub pairs_step : (n m left : ℕ) (all was now : Polynomial) (xs ys zs : List ℕ) (x : ℕ) (t : Term) → left ≡ suc m → was ++ pairs_from n left xs ≡ all → x ≡ unwrap_or (first xs) 0 → ys ≡ drop 1 xs → t ≡ exponents_of n ys → zs ≡ drop n ys → now ≡ was ++ (x, t) ∷ [] → now ++ pairs_from n m zs ≡ all

@@ -13,14 +13,10 @@ use std::alloc::{AllocError, Global};
 const SLOTS: usize = 4096;
 
 // The numbers that are left.
-fn codes(heap: Global, numbers: &mut Numbers<'_>) -> Result<Vec<u16>, AllocError>
-    ensures { IfOk result (λ v. v.items ≡ left numbers.old) }
+fn codes(heap: Global, numbers: Numbers<'_>) -> Result<Vec<u16>, AllocError>
+    ensures { IfOk result (λ v. v.items ≡ left numbers.entry) }
 {
-    let mut codes = Vec::new(heap);
-    while let Some(code) = numbers.next() {
-        codes.push(code)?;
-    }
-    Ok(codes)
+    numbers.collect(heap)
 }
 
 fn term(n: u16, body: &[u8]) -> Term
@@ -36,7 +32,7 @@ fn rule_call(heap: Global, n: u16, body: &[u8]) -> Result<Call, AllocError>
     let mut numbers = Numbers::of(body);
     let term = numbers.exponents(n);
     let lead = numbers.next().unwrap_or(0);
-    let row = codes(heap, &mut numbers)?;
+    let row = codes(heap, numbers)?;
     Ok(Call::Rule(Given { term, lead, row }))
 }
 

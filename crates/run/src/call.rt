@@ -31,7 +31,7 @@ pub enum Answer {
     Border(usize),
     Checked(Verdict),
     Formed(bool),
-    Counted(usize, u8),
+    Counted(usize, u8), // the pair that `cofactors` answers
 }
 
 // A call and, once it was run, its answer.

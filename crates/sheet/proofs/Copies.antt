@@ -11,7 +11,7 @@ pub next_first : (ys zs : List ℕ) (o : Option ℕ) → MatchOption o ((ys ≡ 
 next_first ys zs None h = (ap first (sym h.0), h.1 ∙ ap (drop 1) (sym h.0))
 next_first ys zs (Some x) h = (ap first (sym h), ap (drop 1) (sym h))
 
-first_or : (xs : List ℕ) → unwrap_or (first xs) 0 ≡ get_or xs 0 0
+pub first_or : (xs : List ℕ) → unwrap_or (first xs) 0 ≡ get_or xs 0 0
 first_or [] = refl
 first_or (x ∷ xs) = refl
 

@@ -70,6 +70,7 @@ impl<F: Field> Book<F> {
     }
 
     // The same, and the entries that account for the difference; answers their number, and 1 for yes or 0 for no.
+    // A pair of plain numbers: callers print both.
     pub fn cofactors(
         &self,
         p: &[(u16, Term)],

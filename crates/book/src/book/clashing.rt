@@ -24,6 +24,8 @@ fn negate<F: Field>(f: &F, slots: &mut [Entry])
 }
 
 impl<F: Field> Complete<'_, F> {
+    // The searches below are loops: one row serves every turn, and of `find_map` the prover learns no equation.
+
     // The first b after a for which the maps of a and b do not commute at term `j`.
     fn clash_with(&self, j: usize, a: usize) -> Option<(usize, usize)>
         requires { (j < length (terms_of self.now.contents.now)) × (a < self.now.contents.now.basis.variables) }

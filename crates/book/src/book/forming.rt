@@ -45,6 +45,7 @@ impl<F: Field> Complete<'_, F> {
         ensures { table.new ≡ table_rows (ring (F.Field.meaning self.now.field.now)) (system (ledger self.now.contents.now)) i (terms_of self.now.contents.now) }
     {
         let size = self.contents.basis.terms.len();
+        // By index: after a loop over `chunks_mut` a proof knows no code of the table.
         for j in 0..size {
             let part = &mut table[j * size..(j + 1) * size];
             self.unit(j, part);
