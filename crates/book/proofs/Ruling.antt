@@ -1,7 +1,7 @@
 -- Giving and striking a rule, and the verdict of a check, on kept contents. Assumes nothing.
-use Rattle.std.proofs.Common.{◌≡◌, ℕ, zero, suc, ◌+◌, ◌-◌, ◌<◌, ◌≤◌, Bool, true, false, eqb, leb, List, [], ◌∷◌, ◌++◌, map, length, get_or, take, set, Some, None, Option, sym, refl, ap, ◌∙◌, arith}
+use Rattle.std.proofs.Common.{◌≡◌, ℕ, zero, suc, ◌-◌, ◌<◌, Bool, true, false, eqb, leb, List, [], ◌∷◌, length, take, set, Some, None, Option, sym, refl, ap, ◌∙◌, arith}
 use Rattle.std.specs.Option.{option_map}
-use Rattle.std.proofs.lemmas.List.{length-set, take_more_set, map_more, take_all}
+use Rattle.std.proofs.lemmas.List.{length-set}
 use Rattle.std.proofs.lemmas.Bool.{both_ways, and_parts, and_from, eq-eqb}
 use Rattle.algebra.specs.Term.{Term, place}
 use Rattle.algebra.specs.Border.{Row}
@@ -106,13 +106,3 @@ phase_kept k p h c d z =
       long_rows = f.long_rows;
       rows_long = f.rows_long;
     })
-
--- one code more of the row that is kept
-pub codes_more : (h : ℕ → ℕ) (row codes : Row) (j x : ℕ) → length codes ≡ 32 → j < length row → length row ≤ 32 → take j codes ≡ map h (take j row) → x ≡ h (get_or row j 0) → take (j + 1) (set codes j x) ≡ map h (take (j + 1) row)
-codes_more h row codes j x long less few so_far is =
-    take_more_set codes j x (omega arith) ∙ (λ i. so_far i ++ is i ∷ []) ∙ sym (map_more h row j 0 less)
-
-pub codes_all : (h : ℕ → ℕ) (row codes : Row) (j : ℕ) → j ≤ length row → length row ≤ j → take j codes ≡ map h (take j row) → take (length row) codes ≡ map h row
-codes_all h row codes j low high so_far =
-    let same : length row ≡ j = omega arith in
-    ap (λ (n : ℕ). take n codes) same ∙ so_far ∙ ap (map h) (take_all j row high)

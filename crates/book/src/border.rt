@@ -21,7 +21,7 @@ impl Border {
         for t in set.basis.terms.as_slice() {
             self.lay_products(set, t);
         }
-        // By the variable's number: after a loop over `iter_mut` a proof knows no column.
+        // By the variable's number: `iter_mut` would lend the columns while the terms beside them are read, which the borrow check does not cover.
         for i in 0..set.basis.variables {
             self.leads.columns[i] = self.column(set, i);
         }

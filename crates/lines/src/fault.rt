@@ -28,6 +28,7 @@ impl From<SheetFault> for Fault {
 }
 
 impl Fault {
+    // A method as those of the refusals and faults that it holds.
     pub fn number(self) -> u16
         ensures { result ≡ number_of self }
     {

@@ -4,6 +4,7 @@ use crate::lines::{FaultLine, RecordLine};
 use sheet::{Reader, SheetFault};
 use std::fmt;
 
+// The numbers as they stand: what is no kind of field is printed too.
 #[derive(Clone, Copy)]
 struct Heading {
     kind: u16,

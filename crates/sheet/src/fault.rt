@@ -84,6 +84,7 @@ impl Place {
         }
     }
 
+    // This and the next are two: a variant with named fields is no function that one of them could take.
     pub(crate) fn unknown_kind(self) -> RecordFault
         ensures { result ≡ in_record.UnknownKind self.byte self.count }
     {
@@ -104,6 +105,7 @@ impl Place {
 }
 
 impl NumberCause {
+    // A method as the number of a whole fault is.
     pub fn number(self) -> u8
         ensures { result ≡ cause_number self }
     {

@@ -16,7 +16,7 @@ fn same_numbers(body: &[u8], numbers: &[u16]) -> bool
     Numbers::of(body).eq(numbers.iter().copied())
 }
 
-// Writes a record, reads it back, and answers whether it is the same.
+// Writes a record, reads it back, and answers whether it is the same. The kind comes as any number, as it does to `write_record`.
 pub fn round(n: u16, kind: u16, numbers: &[u16], out: &mut [u8]) -> Result<bool, SheetFault>
     ensures value { result ≡ read_again (answer (next (write_record n kind numbers.now) (with_room out.old))) }
     ensures after { out.new ≡ held (next (write_record n kind numbers.now) (with_room out.old)) out.old }

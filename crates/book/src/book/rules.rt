@@ -17,9 +17,10 @@ fn kept_row<F: Field>(f: &F, row: &[u16], inverse: u16) -> [u16; 32]
     ensures long { length result ≡ 32 }
 {
     let mut codes = [0u16; 32];
-    // By index: after a loop over a zipped `iter_mut` a proof knows no code.
-    for (j, c) in row.iter().enumerate() {
-        codes[j] = f.product(*c, inverse);
+    let kept = &mut codes[..row.len()];
+    kept.copy_from_slice(row);
+    for code in kept.iter_mut() {
+        *code = f.product(*code, inverse);
     }
     codes
 }
