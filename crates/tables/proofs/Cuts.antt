@@ -1,5 +1,5 @@
 -- What `cut` gives, in the words of a request and of a text. Assumes nothing.
-use Rattle.std.proofs.Common.{◌≡◌, ℕ, suc, ◌+◌, ◌<◌, Bool, true, false, cond, not, List, [], ◌∷◌, length, take, drop, refl, ap, sym, ◌∙◌, ◌==◌, arith, length-drop, add-one, add_comm}
+use Rattle.std.proofs.Common.{◌≡◌, ℕ, suc, ◌+◌, ◌<◌, ◌≤◌, Bool, true, false, cond, not, List, [], ◌∷◌, length, take, drop, refl, ap, sym, ◌∙◌, ◌==◌, arith, add-one, add_comm}
 use Rattle.std.specs.List.{position_or_len, before_first, after_first}
 use Rattle.tables.specs.Request.{first_word, after_word}
 use Rattle.tables.specs.Text.{extend, lines}
@@ -48,6 +48,15 @@ first_line (b ∷ bs) some = go (b == 10) (longer_line b bs) ∙ (λ i. sym (bef
     go true h = refl
     go false h = h
 
--- which are shorter
-pub after_shorter : (xs : List ℕ) → 0 < length xs → length (after_first (λ x. x == 10) xs) < length xs
-after_shorter xs some = omega (arith, length-drop (position_or_len (λ x. x == 10) xs + 1) xs)
+-- there are no more lines than bytes
+lines_few_under : (b : ℕ) (ls : List (List ℕ)) (n : ℕ) → length ls ≤ n → length (extend b ls) ≤ n + 1
+lines_few_under b [] n h = omega arith
+lines_few_under b (l ∷ ls) n h = omega arith
+
+pub lines_few : (xs : List ℕ) → length (lines xs) ≤ length xs
+lines_few [] = omega arith
+lines_few (b ∷ bs) = go (b == 10) (lines_few bs)
+  where
+    go : (t : Bool) → length (lines bs) ≤ length bs → length (cond t ([] ∷ lines bs) (extend b (lines bs))) ≤ suc (length bs)
+    go true h = omega arith
+    go false h = omega (arith, lines_few_under b (lines bs) (length bs) h)

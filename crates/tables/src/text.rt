@@ -1,4 +1,5 @@
 ghost use Rattle.std.specs.Prelude.{◌≡◌, [], ◌∷◌, ◌++◌, IfOk, IfSome, OnOk, MatchResult};
+ghost use Rattle.std.specs.Iterator.{YieldsFirstRef, item_count};
 ghost use Rattle.tables.specs.Page.{page};
 ghost use Rattle.tables.specs.Text.{refused as refused_text, no_pair, answered as answered_text, answer as answer_text, lines, answers as answers_text};
 
@@ -69,18 +70,34 @@ fn push_answer(out: &mut Vec<u8>, number: usize, line: &[u8]) -> Result<(), Allo
     Ok(())
 }
 
+// The lines of a text; the last may lack its line end.
+#[derive(Drop)]
+struct Lines<'a>(&'a [u8]);
+
+impl<'a> Iterator for Lines<'a> {
+    type Item = &'a [u8];
+
+    ghost next_gives = { YieldsFirstRef (λ s. lines s.0.now) };
+
+    ghost remaining = { item_count (λ s. lines s.0.now) };
+
+    fn next(&mut self) -> Option<&'a [u8]> {
+        if self.0.is_empty() {
+            return None;
+        }
+        let (line, others) = cut(self.0, b'\n');
+        self.0 = others;
+        Some(line)
+    }
+}
+
 // The answers to all lines of the input, in order.
 pub fn answers(heap: Global, input: &[u8]) -> Result<Vec<u8>, AllocError>
     ensures { IfOk result (λ v. v.items ≡ answers_text 1 (lines input.now)) }
 {
     let mut out = Vec::new(heap);
-    let mut rest = input;
-    let mut number: usize = 0;
-    while !rest.is_empty() {
-        number += 1;
-        let (line, others) = cut(rest, b'\n');
-        push_answer(&mut out, number, line)?;
-        rest = others;
+    for (before, line) in Lines(input).enumerate() {
+        push_answer(&mut out, before + 1, line)?;
     }
     Ok(out)
 }
