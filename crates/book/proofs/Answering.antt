@@ -1,7 +1,6 @@
 -- The granted paths of check, form, cofactors and table. Assumes nothing.
-use Rattle.std.proofs.Common.{◌≡◌, ℕ, ◌+◌, ◌-◌, ◌*◌, ◌<◌, ◌≤◌, Bool, true, List, [], ◌∷◌, length, take, Some, None, Ok, Option, Result, sym, refl, ap, ◌∙◌, subst, arith}
+use Rattle.std.proofs.Common.{◌≡◌, ℕ, ◌+◌, ◌-◌, ◌*◌, ◌<◌, ◌≤◌, Bool, true, List, length, take, Some, None, Ok, Option, Result, sym, refl, ap, ◌∙◌, subst, arith}
 use Rattle.field.specs.Arithmetic.{Arithmetic, Ring, ring, CommutativeRing}
-use Rattle.algebra.specs.Term.{Term}
 use Rattle.algebra.specs.Polynomial.{Polynomial, Over}
 use Rattle.algebra.specs.Border.{Row}
 use Rattle.algebra.specs.Walk.{normal_form, cofactors, all_zero}
@@ -21,6 +20,7 @@ use Rattle.book.specs.declared.verdict.Verdict.{Verdict}
 use Rattle.book.specs.Effects.{written, yes_no, phase_of, checked, verdict, clash_row, clash_entries}
 use Rattle.book.specs.Promise.{Accounts, VerdictMeans}
 use Rattle.book.specs.Kept.{kept, ledger, ready, terms_of, rows_of, is_closed}
+use Rattle.book.proofs.Bridge.{zeros_like_is}
 use Rattle.book.proofs.Granting.{granted_now}
 use Rattle.book.proofs.Ruling.{in_phase, phase_kept}
 use Rattle.book.proofs.Ready.{ready_contents}
@@ -103,16 +103,17 @@ module _ (A : Arithmetic) (laws : CommutativeRing (ring A)) (k : Contents) (h : 
       subst (λ (v : Row). Accounts (ring A) (system (ledger k)) p v (take n slots')) (sym formed)
       (subst (λ (es : List Entry). Accounts (ring A) (system (ledger k)) p (normal_form (ring A) (system (ledger k)) p) es) (λ i. take (sym w.1 i) (sym w.0 i)) (cofactors_mean laws (system (ledger k)) good p a.over slots))
 
+-- a check leaves the border laid
+pub closed_after : (o : Option Clash) → is_closed (phase_of o) ≡ true
+closed_after None = refl
+closed_after (Some x) = refl
+
 -- a granted check, by the clash that was found or none
 module _ (A : Arithmetic) (laws : CommutativeRing (ring A)) (k : Contents) (h : kept k ≡ true) (row : Row) (slots : List Entry) (e : judge_check (ledger k) row slots ≡ None) (o : Option Clash) (found : o ≡ first_clash (ring A) (system (ledger k))) where
   pub check_kept : kept (in_phase k (phase_of o)) ≡ true
   check_kept =
       let a = check_admitted (ledger k) row slots e in
       phase_kept k (phase_of o) h a.closed (closed_after o) a.complete
-    where
-      closed_after : (x : Option Clash) → is_closed (phase_of x) ≡ true
-      closed_after None = refl
-      closed_after (Some x) = refl
 
   pub check_after : ledger (in_phase k (phase_of o)) ≡ on_grant (judge_check (ledger k) row slots) (checked (ring A) (ledger k)) (ledger k)
   check_after = (λ i. record { variables = k.basis.variables; terms = terms_of k; phase = phase_of (found i); rows = rows_of k }) ∙ granted_now _ e _ (ledger k)
@@ -138,10 +139,4 @@ module _ (A : Arithmetic) (laws : CommutativeRing (ring A)) (k : Contents) (h : 
 
 -- the row of a check without a clash
 pub cleared_row : (k : Contents) → kept k ≡ true → (row : Row) → length row ≡ length (terms_of k) → zeros_like row ≡ zeros (terms_of k)
-cleared_row k h row l = zeros_as row (terms_of k) l
-  where
-    zeros_as : (v : Row) (ts : List Term) → length v ≡ length ts → zeros_like v ≡ zeros ts
-    zeros_as [] [] l = refl
-    zeros_as [] (t ∷ ts) l = absurd (omega arith)
-    zeros_as (a ∷ v) [] l = absurd (omega arith)
-    zeros_as (a ∷ v) (t ∷ ts) l = ap (λ (u : Row). 0 ∷ u) (zeros_as v ts (omega arith))
+cleared_row k h row l = zeros_like_is row (terms_of k) l

@@ -97,7 +97,7 @@ module _ {R : Ring} (laws : CommutativeRing R) where
 
     pub formed_none : (p : Polynomial) (start : Listed) (v row : Row) → length v ≡ length (terms_of k) → row ≡ zeros_like v → Formed R B p start 0 row start
     formed_none p start v row l e =
-        let is : row ≡ zeros (terms_of k) = e ∙ zeros_like_is laws v (terms_of k) l in
+        let is : row ≡ zeros (terms_of k) = e ∙ zeros_like_is v (terms_of k) l in
         record {
           long = ap (λ (w : Row). length w) is ∙ map_length _ (terms_of k);
           form = ap (λ (w : Row). form_onto R B w p) is;

@@ -21,7 +21,7 @@ pub struct Book<F: Field> {
 }
 
 // The parts of a closed book that lacks no rule: what is reckoned by its maps needs both.
-// The place of a term and the length of a row stay preconditions of its methods: each call has others, and a type for them would be made at every call.
+// The place of a term and the length of a row stay preconditions of its methods: a type for either would lend the book again and be made at every call.
 #[derive(Drop)]
 pub(crate) struct Complete<'a, F: Field> {
     field: &'a F,

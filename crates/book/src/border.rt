@@ -69,6 +69,7 @@ impl Border {
     {
         match basis.terms.place(e) {
             Some(place) => Lead::Inside(place as u16),
+            // 0 does not come: a product that is not in S is on the border. A refusal would have nobody to go to.
             None => Lead::OnBorder(self.terms.place(e).unwrap_or(0) as u16),
         }
     }

@@ -7,6 +7,8 @@ use crate::phase::Phase;
 use crate::terms::Terms;
 use row::Lead;
 
+// What a book holds lies in arrays of the largest sizes: the library has no heap. Rows and leads stand beside their terms, place by place, since a search goes over terms alone.
+
 // The variables and the terms of S.
 #[derive(Drop)]
 pub struct Basis {

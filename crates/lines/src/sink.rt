@@ -1,4 +1,4 @@
-// Where the bytes of a line go one after another.
+// Where the bytes of a line go one after another. A trait of its own and no `Display`: no contract says that a `fmt` succeeds, and a line that has room is not refused.
 ghost use Rattle.std.specs.Prelude.{ℕ, List, length};
 ghost use Rattle.lines.specs.Sink.{SinkLaws};
 ghost use Rattle.lines.specs.Sinks.{count_fits, counted, count_laws, front_fits, Filled, front_laws};
@@ -33,7 +33,7 @@ impl Sink for Count {
     }
 }
 
-// An output that is filled from its front. The writer of `sheet_write` does the same and is private there, since what it puts has to fit.
+// An output that is filled from its front. The writer of `sheet_write` does the same, but is private there: its methods ask for room, and no public function asks for anything.
 #[derive(Drop)]
 pub(crate) struct Front<'a> {
     pub(crate) out: &'a mut [u8],

@@ -4,7 +4,7 @@ ghost use Rattle.lines.specs.Line.{spaced, all_spaced, three};
 
 use crate::sink::Sink;
 
-// The digits of a number. By hand: no contract says that a `fmt` succeeds, and a line that has room is not refused.
+// The digits of a number.
 fn say_decimal<S: Sink>(sink: &mut S, n: usize)
     requires { S.fits sink.old (length (decimal n)) }
     ensures bytes { S.took sink.old (decimal n) sink.new }

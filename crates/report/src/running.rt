@@ -18,7 +18,7 @@ use run::{Answer, Call, perform};
 use sheet::{Placed, Reader};
 use std::alloc::{AllocError, Global};
 
-// Every line of a book fits: its row has at most 32 codes.
+// Every line of a book fits: its row has at most 32 codes. So a line is written on the stack, and only its bytes go to the heap.
 const LINE: usize = 1024;
 
 fn push_line(out: &mut Vec<u8>, line: Line<'_>) -> Result<(), AllocError>
@@ -32,7 +32,7 @@ fn push_line(out: &mut Vec<u8>, line: Line<'_>) -> Result<(), AllocError>
     }
 }
 
-// The row that a question has left.
+// The row that a question has left. Empty and no Option where there is none: it is printed as it is.
 fn row_left(call: &Call) -> &[u16]
     ensures { result.now ≡ row_left (step_of call.now) }
 {

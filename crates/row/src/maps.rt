@@ -13,6 +13,7 @@ use field::Field;
 use term::first_variable;
 
 // The maps of the variables on rows over a field, by the rows of the border terms; a term without a row counts as 0.
+// The leads come as arguments: a map has those of one variable, a walk those of all.
 #[derive(Drop)]
 pub struct Maps<'a, F: Field> {
     pub field: &'a F,
@@ -20,7 +21,7 @@ pub struct Maps<'a, F: Field> {
 }
 
 impl<F: Field> Maps<'_, F> {
-    // The row at a place counted from 1; empty where there is none.
+    // The row at a place counted from 1. Empty and no Option where there is none: it is added as it is, and counts as 0.
     fn row(&self, place: usize) -> &[u16]
         ensures { result.now ≡ at_place place (given_rows self.now.rows.now) [] }
     {

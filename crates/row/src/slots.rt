@@ -4,7 +4,7 @@ ghost use Rattle.row.specs.Listing.{listing, listed_one, listed_all, step_led};
 use crate::lead::Lead;
 use algebra::{Entry, Term};
 
-// Lent slots for entries, of which the first `count` are taken.
+// Slots that a caller lends for entries, of which the first `count` are taken. No Vec: the library has no heap.
 #[derive(Drop)]
 pub struct Slots<'a> {
     pub slots: &'a mut [Entry],

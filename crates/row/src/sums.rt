@@ -17,6 +17,8 @@ fn combine<H: Fn(u16, u16) -> u16>(out: &mut [u16], row: &[u16], h: H)
     }
 }
 
+// Functions on slices and no type of row: the codes are a caller's, a stack's or a book's.
+
 // Adds `c` times `row` to `out`, code by code.
 pub fn add_multiple<F: Field>(f: &F, out: &mut [u16], c: u16, row: &[u16])
     ensures { out.new ≡ add_multiple (ring (F.Field.meaning f.now)) out.old c row.now }

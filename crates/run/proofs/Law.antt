@@ -23,13 +23,14 @@ use Rattle.book.specs.Ledger.{Ledger, new_ledger, edge, system}
 use Rattle.book.specs.Effects.{phase_of, verdict, kept_row, yes_no}
 use Rattle.book.specs.Kept.{terms_fit, is_closed}
 use Rattle.book.proofs.Adding.{fit_more}
-use Rattle.book.proofs.Searching.{next_zero}
+use Rattle.book.proofs.Searching.{next_zero, place_within}
 use Rattle.book.proofs.Ready.{fit_connected}
 use Rattle.book.proofs.Filling.{open_for_terms}
 use Rattle.book.proofs.Granting.{refuse_none, refuse_at_none, not_false_true}
 use Rattle.book.proofs.Admitting.{rule_admitted, strike_admitted, check_admitted, form_admitted, cofactors_admitted}
+use Rattle.book.proofs.Answering.{closed_after}
 use Rattle.book.proofs.Meaning.{over_from, verdict_means, form_means, cofactors_mean}
-use Rattle.run.proofs.Scaling.{place_bound, all_fit, row_back}
+use Rattle.run.proofs.Scaling.{all_fit, row_back}
 use Rattle.run.specs.Calls.{Step, lay, term, close, rule, strike, check, form, cofactor, table, judge, value, changed, finished, answer, next, finish}
 use Rattle.run.specs.Runs.{stands, stands_after, verdict_stands, GrantedExactly, FormTells, Means, Meaning, RunLaw, run}
 use Rattle.run.specs.Further.{judge_variable, TableGrantedExactly, Tells, Telling, RunTells}
@@ -104,10 +105,6 @@ long_none D (e ∷ es) = long_none D es
 clash_phase : (A : Arithmetic) (L : Ledger) (o : Option Clash) → first_clash (ring A) (system L) ≡ o → phase_of o ≡ Sound → first_clash (ring A) (system L) ≡ None
 clash_phase A L None e h = e
 clash_phase A L (Some x) e h = not_sound Clashing refl h
-
-closed_phase : (o : Option Clash) → is_closed (phase_of o) ≡ true
-closed_phase None = refl
-closed_phase (Some x) = refl
 
 -- a granted call keeps the ledger's facts
 pub changed_kept : (A : Arithmetic) (L : Ledger) → Kept A L → (s : Step) → judge A L s ≡ None → Kept A (changed A L s)
@@ -254,7 +251,7 @@ module _ (A : Arithmetic) (laws : Lawful A) (L : Ledger) (k : Kept A L) where
   on_border x later h =
       let p = refuse_none (not (zero_past L.variables x)) (ExponentPastVariables 1) _ h in
       let q = refuse_none (eqb (place x (edge L)) 0) NotOnBorder later p.1 in
-      (⊎_elim (λ some. omega (arith, some, place_bound x (edge L))) (λ none. absurd (eqb-false (place x (edge L)) 0 q.0 (omega arith))) (cases_lt 0 (place x (edge L))), q.1)
+      (⊎_elim (λ some. omega (arith, some, place_within x (edge L))) (λ none. absurd (eqb-false (place x (edge L)) 0 q.0 (omega arith))) (cases_lt 0 (place x (edge L))), q.1)
 
   -- what the form of a polynomial says in a sound book
   form_tells : L.phase ≡ Sound → (p : Polynomial) → Over L.variables p → FormTells A L p (normal_form (ring A) (system L) p) (all_zero (normal_form (ring A) (system L) p))

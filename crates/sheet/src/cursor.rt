@@ -23,6 +23,7 @@ impl<'a> Record<'a> {
 }
 
 impl<'a> Numbers<'a> {
+    // `of` and no `From`: any bytes can be asked for their numbers, but they do not turn into them.
     pub fn of(body: &'a [u8]) -> Numbers<'a>
         ensures { result.rest.now ≡ body.now }
     {

@@ -54,7 +54,8 @@ impl From<RecordFault> for SheetFault {
     }
 }
 
-// Where a record or a number stands: its first byte in the sheet, and its record from 1, or 0 for the heading.
+// Where a record or a number stands: its first byte in the sheet, and its record from 1. 0 and no Option for the heading, since 0 is what is printed.
+// Faults are public and name the two themselves, so that a pattern shows them.
 #[derive(Clone, Copy)]
 pub(crate) struct Place {
     pub(crate) byte: usize,
@@ -105,7 +106,7 @@ impl Place {
 }
 
 impl NumberCause {
-    // A method as the number of a whole fault is.
+    // A method, as it is for a whole fault.
     pub fn number(self) -> u8
         ensures { result ≡ cause_number self }
     {

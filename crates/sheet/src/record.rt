@@ -17,6 +17,7 @@ pub struct Extent {
     pub to: usize,
 }
 
+// The bytes begin at the place. The two stay apart, since a body goes on with both at its own pace.
 pub(crate) fn number_at(limit: u16, bytes: &[u8], place: Place) -> Result<(u16, usize), NumberFault>
     ensures value { result ≡ number_at limit bytes.now place.byte place.count }
     ensures back { IfOk result (λ p. Taken limit bytes.now p.0 p.1) }

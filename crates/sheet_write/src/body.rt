@@ -42,7 +42,7 @@ impl Body<'_> {
         Some(size)
     }
 
-    // Its length, where it can be written.
+    // Its length, where it can be written. A body that is to be written stands nowhere yet, so byte and record of its faults are 0.
     pub(crate) fn counted_size(self) -> Result<usize, RecordFault>
         ensures value { result ≡ counted self.entry.kind self.entry.n self.entry.numbers.now }
         ensures size { IfOk result (λ size. BodySize size self.entry.numbers.now) }

@@ -6,6 +6,7 @@ use crate::writer::Writer;
 use sheet::{OPENING, RecordFault, SheetFault};
 
 // Writes the opening and the three numbers of a heading at the front of the output, and answers how many bytes they take.
+// Three plain numbers: what names no field is written too, so that a reader can be tried on it.
 pub fn write_heading(
     field: u16,
     modulus: u16,

@@ -3,7 +3,7 @@ ghost use Rattle.sheet.specs.Number.{number_bytes};
 ghost use Rattle.sheet_write.specs.Puts.{Puts};
 ghost use Rattle.sheet_write.specs.Writing.{flat};
 
-// An output, and where the next byte goes in it.
+// The output of a caller, and where the next byte goes in it. Each public writer asks first whether there is room, since the methods here ask for it.
 #[derive(Drop)]
 pub(crate) struct Writer<'a> {
     pub(crate) out: &'a mut [u8],

@@ -1,5 +1,5 @@
 -- The searches of this crate in the library's words. Assumes nothing.
-use Rattle.std.proofs.Common.{◌≡◌, ℕ, zero, suc, ◌+◌, ◌-◌, ◌<◌, ◌≤◌, Bool, true, false, cond, not, ◌||◌, ◌&&◌, eqb, List, [], ◌∷◌, ◌++◌, length, get_or, set, drop, Some, None, Option, sym, refl, ap, ◌∙◌, add-one, arith}
+use Rattle.std.proofs.Common.{◌≡◌, ℕ, zero, suc, ◌+◌, ◌-◌, Bool, true, false, cond, not, ◌||◌, ◌&&◌, eqb, List, [], ◌∷◌, get_or, set, drop, Some, None, Option, sym, refl, ap, ◌∙◌, add-one, arith}
 use Rattle.std.specs.List.{list_any, list_all, position, position_from, range_with_len, sum_by}
 use Rattle.std.specs.Option.{option_map}
 use Rattle.std.proofs.lemmas.Iterator.Adapters.{position_from-zero}
@@ -10,7 +10,7 @@ use Rattle.algebra.specs.Term.{Term, next_place, same, has, place, times, degree
 use Rattle.algebra.specs.Border.{multiples_from, multiples}
 use Rattle.term.specs.Search.{first_place, found}
 use Rattle.term.specs.Letters.{shifted, first_variable}
-use Rattle.term.proofs.Letters.{variable_found, variable_absent}
+use Rattle.term.proofs.Letters.{variable_found}
 use Rattle.term.proofs.Exponents.{has_append}
 
 pub has_any : (t : Term) (ts : List Term) → list_any (same t) ts ≡ has t ts

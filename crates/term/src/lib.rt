@@ -1,4 +1,4 @@
-// Terms as values of eight bytes: comparison, search, and the variables of a term.
+// Terms as values of eight bytes: comparison, search, and the variables of a term. Functions and no methods, since a term is an array.
 #![tactic(auto)]
 
 mod terms;

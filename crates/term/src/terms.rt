@@ -6,6 +6,7 @@ ghost use Rattle.term.specs.Search.{found};
 
 use algebra::Term;
 
+// `==` under a name: its equation speaks of `same`, as the definitions do.
 pub fn same(a: &Term, b: &Term) -> bool
     ensures { result ≡ same_term a.now b.now }
 {
@@ -50,7 +51,7 @@ pub fn zero_past(t: &Term, n: usize) -> bool
     t.iter().skip(n).all(|e| *e == 0)
 }
 
-// Whether the term is in the first `n` variables.
+// Whether the term is in the first `n` variables: the same question in the words of the ring, with a definition of its own.
 pub fn in_variables(t: &Term, n: usize) -> bool
     ensures { result ≡ in_variables n t.now }
 {

@@ -70,7 +70,7 @@ impl<F: Field> Book<F> {
     }
 
     // The same, and the entries that account for the difference; answers their number, and 1 for yes or 0 for no.
-    // A pair of plain numbers: callers print both.
+    // A pair of plain numbers: programs take the count and the yes or no as they are.
     pub fn cofactors(
         &self,
         p: &[(u16, Term)],

@@ -43,6 +43,7 @@ impl<F: Field> Book<F> {
         self.contents.border.terms.place(e)
     }
 
+    // A plain place, here and below: a type that knows it to be on the border would lend the book, which the caller then writes.
     fn judge_border(&self, e: &Term) -> Result<usize, Refusal>
         ensures value { result ≡ granted (judge_on self.now.contents.basis.variables (border_in self.now.contents.phase self.now.contents.basis.variables (terms_of self.now.contents)) e.now None) (place_of e.now (border_in self.now.contents.phase self.now.contents.basis.variables (terms_of self.now.contents))) }
         ensures bound { IfOk result (λ place. (1 ≤ place) × (place ≤ length self.now.contents.border.terms)) }
