@@ -1,11 +1,11 @@
 ghost use Rattle.std.specs.Prelude.{◌≡◌, ◌+◌, ◌-◌, ◌*◌, ◌^◌, ◌≤◌, min, true, length, is_ok};
 ghost use Rattle.sheet_write.specs.Writing.{answer, held, with_room};
-ghost use Rattle.lines.specs.Line.{said, text, name, member_word, width, fault as fault_line, form as form_line, clash as clash_line};
+ghost use Rattle.lines.specs.Line.{said, text, member_word, width, fault as fault_line, form as form_line, clash as clash_line};
 
 use crate::fault::Fault;
 use crate::sink::{Count, Front, Sink};
 use crate::text::{say_codes, say_spaced, say_three};
-use sheet::{Layer, RecordFault, SheetFault};
+use sheet::{RecordFault, SheetFault};
 
 // A line of a report: what a check said, the form of a question, or the fault that ended the run.
 #[derive(Clone, Copy)]
@@ -24,16 +24,6 @@ pub enum Line<'a> {
     Fault(Fault),
 }
 
-fn layer_name(layer: Layer) -> &'static [u8]
-    ensures { result.now ≡ name layer }
-{
-    match layer {
-        Layer::Number => b"number",
-        Layer::Record => b"record",
-        Layer::Book => b"book",
-    }
-}
-
 fn member_word(member: bool) -> &'static [u8]
     ensures { result.now ≡ member_word member }
 {
@@ -46,7 +36,7 @@ fn say_fault<S: Sink>(sink: &mut S, fault: Fault)
     ensures few { length (text (fault_line fault)) ≤ 80 }
 {
     sink.put(b"fault ");
-    sink.put(layer_name(fault.layer()));
+    sink.put(fault.layer().name().as_bytes());
     say_three(sink, fault.number() as usize, fault.byte(), fault.record())
 }
 

@@ -1,6 +1,6 @@
 ghost use Rattle.std.specs.Prelude.{◌++◌, Some, codes, decimal};
 
-use sheet::{Layer, Numbers, Placed, Record, SheetFault};
+use sheet::{Numbers, Placed, Record, SheetFault};
 use std::fmt;
 
 // A number behind a space.
@@ -117,11 +117,7 @@ pub struct FaultLine(pub SheetFault);
 impl fmt::Display for FaultLine {
     fn fmt<W: fmt::Write>(&self, f: &mut fmt::Formatter<W>) -> fmt::Result {
         let fault = self.0;
-        let layer = match fault.layer() {
-            Layer::Number => "number",
-            Layer::Record => "record",
-            Layer::Book => "book",
-        };
+        let layer = fault.layer().name();
         let number = fault.number();
         let byte = fault.byte();
         let record = fault.record();

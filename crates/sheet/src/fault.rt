@@ -1,5 +1,5 @@
 ghost use Rattle.std.specs.Prelude.{◌≡◌, ◌+◌, ◌^◌, ◌<◌};
-ghost use Rattle.sheet.specs.Fault.{fault_at, cause_number, fault_number, fault_byte, fault_record, fault_layer};
+ghost use Rattle.sheet.specs.Fault.{fault_at, cause_number, fault_number, fault_byte, fault_record, fault_layer, layer_name};
 ghost use Rattle.sheet.specs.declared.fault.RecordFault.TheVariants as in_record;
 ghost use Rattle.sheet.specs.declared.fault.SheetFault.TheVariants as in_sheet;
 
@@ -11,6 +11,19 @@ pub enum Layer {
     Number,
     Record,
     Book,
+}
+
+impl Layer {
+    // The word for it in a report and in a listing.
+    pub fn name(self) -> &'static str
+        ensures { result.now ≡ layer_name self }
+    {
+        match self {
+            Layer::Number => "number",
+            Layer::Record => "record",
+            Layer::Book => "book",
+        }
+    }
 }
 
 // A fault of the number whose first byte stands at `byte`.

@@ -10,7 +10,7 @@ put-requires-2 g c =
     let f = c.args.fault in
     let layer = name (layer_of f) in
     let numbers = three (number_of f) (byte_of f) (record_of f) in
-    let word : c.layer_name.result.now ≡ layer = c.layer_name.ensures ∙ ap name c.layer.ensures in
+    let word : c.as_bytes.result.now ≡ layer = c.as_bytes.ensures.value ∙ c.name.ensures ∙ ap name c.layer.ensures in
     let one = piece laws (codes "fault ") (layer ++ numbers) c.put.new.self (begun laws c.args.sink.now (text (fault f)) c.requires) c.put.ensures in
     subst (λ bs. g.S.Sink.fits c.put.new.self (length bs)) (sym word) (piece_fits laws layer numbers one)
 
@@ -20,7 +20,7 @@ say_three-requires g c =
     let f = c.args.fault in
     let layer = name (layer_of f) in
     let numbers = three (number_of f) (byte_of f) (record_of f) in
-    let word : c.layer_name.result.now ≡ layer = c.layer_name.ensures ∙ ap name c.layer.ensures in
+    let word : c.as_bytes.result.now ≡ layer = c.as_bytes.ensures.value ∙ c.name.ensures ∙ ap name c.layer.ensures in
     let are : three c.number.result c.byte.result c.record.result ≡ numbers = λ i. three (c.number.ensures i) (c.byte.ensures i) (c.record.ensures i) in
     let one = piece laws (codes "fault ") (layer ++ numbers) c.put.new.self (begun laws c.args.sink.now (text (fault f)) c.requires) c.put.ensures in
     let two = piece laws layer numbers c.put-2.new.self one (subst (λ bs. g.S.Sink.took c.put.new.self bs c.put-2.new.self) word c.put-2.ensures) in
@@ -32,7 +32,7 @@ returns-clause-bytes g c =
     let f = c.args.fault in
     let layer = name (layer_of f) in
     let numbers = three (number_of f) (byte_of f) (record_of f) in
-    let word : c.layer_name.result.now ≡ layer = c.layer_name.ensures ∙ ap name c.layer.ensures in
+    let word : c.as_bytes.result.now ≡ layer = c.as_bytes.ensures.value ∙ c.name.ensures ∙ ap name c.layer.ensures in
     let are : three c.number.result c.byte.result c.record.result ≡ numbers = λ i. three (c.number.ensures i) (c.byte.ensures i) (c.record.ensures i) in
     let one = piece laws (codes "fault ") (layer ++ numbers) c.put.new.self (begun laws c.args.sink.now (text (fault f)) c.requires) c.put.ensures in
     let two = piece laws layer numbers c.put-2.new.self one (subst (λ bs. g.S.Sink.took c.put.new.self bs c.put-2.new.self) word c.put-2.ensures) in
