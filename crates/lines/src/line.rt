@@ -97,7 +97,7 @@ impl Line<'_> {
         ensures room { width (said self.entry) ≤ length out.old → is_ok result ≡ true }
     {
         if self.size() > out.len() as u128 {
-            return Err(SheetFault::Record(RecordFault::ShortOutput));
+            return Err(RecordFault::ShortOutput.into());
         }
         let mut front = Front { out, at: 0 };
         self.say(&mut front);

@@ -2,11 +2,11 @@ use Rattle.std.proofs.Common.{◌≡◌, min, drop, ap, ◌∙◌}
 use Rattle.run.specs.Calls.{rule}
 use Rattle.sheet.specs.Numbers.{left, numbers_of, exponents_of}
 use Rattle.sheet.proofs.Copies.{next_at}
-use Rattle.report.proofs.calls.rule_call.Goals as goal
+use Rattle.report.proofs.calls.Maker.rule.Goals as goal
 
 pub returns : goal.returns
 returns c =
-    let n = min c.args.n 8 in
+    let n = min c.args.self.n 8 in
     let xs = numbers_of c.args.body.now in
     let all : left c.of-numbers.result ≡ xs = ap numbers_of c.of-numbers.ensures in
     let rest : left c.exponents-term.new.self ≡ drop n xs = c.exponents-term.ensures.after ∙ ap (drop n) all in
