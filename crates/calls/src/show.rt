@@ -3,6 +3,7 @@ use book::{Refusal, Verdict};
 use run::{Answer, Call, Line};
 use std::fmt;
 
+// A function and no Display: `Call` is another crate's.
 fn call_name(call: &Call) -> &'static str {
     match call {
         Call::Lay(_) => "lay",
@@ -63,23 +64,17 @@ impl fmt::Display for Outcome {
     }
 }
 
+// An element of a slice that a call left.
 #[derive(Clone, Copy)]
-struct Row<'a>(&'a [u16]);
+struct Element<T>(T);
 
-impl fmt::Display for Row<'_> {
+impl fmt::Display for Element<u16> {
     fn fmt<W: fmt::Write>(&self, f: &mut fmt::Formatter<W>) -> fmt::Result {
-        write!(f, ", row")?;
-        for code in self.0 {
-            write!(f, " {code}")?;
-        }
-        Ok(())
+        write!(f, "{}", self.0)
     }
 }
 
-#[derive(Clone, Copy)]
-struct Multiple(Entry);
-
-impl fmt::Display for Multiple {
+impl fmt::Display for Element<Entry> {
     fn fmt<W: fmt::Write>(&self, f: &mut fmt::Formatter<W>) -> fmt::Result {
         let entry = self.0;
         write!(f, "{}*", entry.code)?;
@@ -90,14 +85,18 @@ impl fmt::Display for Multiple {
     }
 }
 
+// A word, and each element behind a space.
 #[derive(Clone, Copy)]
-struct Entries<'a>(&'a [Entry]);
+struct Listed<'a, T>(&'static str, &'a [T]);
 
-impl fmt::Display for Entries<'_> {
+impl<T: Copy> fmt::Display for Listed<'_, T>
+where
+    Element<T>: fmt::Display,
+{
     fn fmt<W: fmt::Write>(&self, f: &mut fmt::Formatter<W>) -> fmt::Result {
-        write!(f, ", entries")?;
-        for entry in self.0 {
-            write!(f, " {}", Multiple(*entry))?;
+        write!(f, ", {}", self.0)?;
+        for element in self.1 {
+            write!(f, " {}", Element(*element))?;
         }
         Ok(())
     }
@@ -113,9 +112,9 @@ impl fmt::Display for Shown<'_> {
         write!(f, "{}: {}", call_name(call), Outcome(*answer))?;
         match call {
             Call::Check(row, entries) | Call::Cofactors(_, row, entries) => {
-                write!(f, "{}{}", Row(row), Entries(entries))
+                write!(f, "{}{}", Listed("row", row), Listed("entries", entries))
             }
-            Call::Form(_, row) | Call::Table(_, row) => write!(f, "{}", Row(row)),
+            Call::Form(_, row) | Call::Table(_, row) => write!(f, "{}", Listed("row", row)),
             _ => Ok(()),
         }
     }

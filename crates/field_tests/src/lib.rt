@@ -106,20 +106,18 @@ mod tests {
 
     // The negative and the inverse of `a` are the codes at which the sum is 0 and the product 1, and each is met once.
     fn row<F: Field, E: Expected>(rt: &impl Abort, f: &F, e: &E, a: u16) {
-        let mut negatives: u16 = 0;
-        let mut inverses: u16 = 0;
         for b in 0..e.order() {
             assert_eq!(rt; f.sum(a, b), e.sum(a, b));
             assert_eq!(rt; f.product(a, b), e.product(a, b));
             if e.sum(a, b) == 0 {
-                negatives = negatives.wrapping_add(1);
                 assert_eq!(rt; f.negative(a), b);
             }
             if e.product(a, b) == 1 {
-                inverses = inverses.wrapping_add(1);
                 assert_eq!(rt; f.inverse(a), Some(b));
             }
         }
+        let negatives = (0..e.order()).filter(|b| e.sum(a, *b) == 0).count();
+        let inverses = (0..e.order()).filter(|b| e.product(a, *b) == 1).count();
         assert_eq!(rt; negatives, 1);
         assert_eq!(rt; inverses, if a == 0 { 0 } else { 1 });
     }

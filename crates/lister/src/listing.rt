@@ -49,19 +49,16 @@ pub struct Listing<'a>(pub &'a [u8]);
 
 impl fmt::Display for Listing<'_> {
     fn fmt<W: fmt::Write>(&self, f: &mut fmt::Formatter<W>) -> fmt::Result {
-        let bytes = self.0;
-        match read_heading(bytes) {
+        match read_heading(self.0) {
             Ok((heading, mut reader)) => {
                 write!(f, "{heading}")?;
-                // Each record takes a byte at least, so there are no more of them than bytes.
-                for _ in 0..bytes.len() {
+                loop {
                     match reader.next() {
                         Ok(Some(placed)) => write!(f, "{}", RecordLine(placed))?,
-                        Ok(None) => break,
+                        Ok(None) => return Ok(()),
                         Err(fault) => return write!(f, "{}", FaultLine(fault)),
                     }
                 }
-                Ok(())
             }
             Err(fault) => write!(f, "{}", FaultLine(fault)),
         }

@@ -40,10 +40,12 @@ fn of_kind(word: &[u8], n: u16) -> Result<Request, RequestError>
     }
 }
 
-impl Request {
-    pub fn of(line: &[u8]) -> Result<Request, RequestError>
-        ensures { result ≡ request line.now }
-    {
+impl<'a> TryFrom<&'a [u8]> for Request {
+    type Error = RequestError;
+
+    ghost try_from_gives = { λ line r. r ≡ request line.now };
+
+    fn try_from(line: &'a [u8]) -> Result<Request, RequestError> {
         let (word, digits) = cut(line, b' ');
         if word.is_empty() {
             return Err(RequestError::NoPair);

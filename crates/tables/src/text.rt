@@ -65,7 +65,7 @@ fn push_answer(out: &mut Vec<u8>, number: usize, line: &[u8]) -> Result<(), Allo
 {
     out.extend_from_slice(line)?;
     out.push(b'\n')?;
-    push_answered(out, number, Request::of(line))?;
+    push_answered(out, number, Request::try_from(line))?;
     out.push(b'\n')?;
     Ok(())
 }

@@ -4,7 +4,7 @@ use Rattle.tables.specs.Request.{decimal_number, with_number}
 use Rattle.tables.specs.declared.request.RequestError.TheVariants.{NoPair}
 use Rattle.tables.proofs.Cuts.{word_before, word_after}
 use Rattle.tables.proofs.Readings.{no_number, pair}
-use Rattle.tables.proofs.request.Request.of.Goals as goal
+use Rattle.tables.proofs.request.RequestTryFromRefSliceU8.try_from.Goals as goal
 
 pub returns-in_err-n : goal.returns-in_err-n
 returns-in_err-n c =
