@@ -62,7 +62,7 @@ fn second_byte(limit: u16, low: u32, bytes: &[u8]) -> Result<(u16, usize), Numbe
     }
 }
 
-// The number at the front of the bytes, with how many of them it takes.
+// The number at the front of the bytes, with how many of them it takes. The limit is the caller's, and belongs to no bytes.
 pub fn read_number(limit: u16, bytes: &[u8]) -> Result<(u16, usize), NumberCause>
     ensures value { result ≡ read_number limit bytes.now }
     ensures back { ReadAsWritten limit bytes.now result }

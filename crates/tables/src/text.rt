@@ -10,6 +10,7 @@ use field::{Binary, Field, Prime, Refusal};
 use std::alloc::{AllocError, Global};
 use std::fmt;
 
+// `out` is an argument here and below, as an output is anywhere: it belongs to no line.
 fn push_text<D: fmt::Display + Drop>(out: &mut Vec<u8>, value: D) -> Result<(), AllocError>
     ensures { OnOk result (IfSome (D.output value) (λ bs. out.new.items ≡ out.old.items ++ bs)) }
 {

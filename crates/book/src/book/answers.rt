@@ -1,4 +1,4 @@
-// The calls that answer: check, form, cofactors and table.
+// The calls that answer: check, form, cofactors and table. Each takes the slices that it writes one by one, as its callers lend them.
 ghost use Rattle.std.specs.Prelude.{◌≡◌, ◌-◌, true, [], length};
 ghost use Rattle.field.specs.Arithmetic.{ring};
 ghost use Rattle.algebra.specs.Clash.{first_clash};
