@@ -14,7 +14,7 @@ use Rattle.algebra.specs.Walk.{zeros, unit, image, map_onto, mapped, last_row, e
 use Rattle.algebra.specs.Clash.{Commute, twice, commutator, commutator_entries, negative_row, negative_entries}
 use Rattle.algebra.proofs.Terms.{product_times, product_one, one_product, word_letters, spelled_in_variables, product_in_variables, one_in_variables, has_head, has_tail}
 use Rattle.algebra.proofs.Borders.{Distinct, connected_induction, connected_distinct, term_in_variables, get_or_has, place_of, border_distinct, border_multiple, product_leads, not_in_set, rule_past, stands}
-use Rattle.algebra.proofs.Totals.{total, zero_plus, plus_zero, total_below, total_append, total_multiple, total_difference, equal_from_totals, totals_from_equal}
+use Rattle.algebra.proofs.Totals.{total, zero_plus, total_below, total_append, total_multiple, total_difference, equal_from_totals, totals_from_equal}
 use Rattle.algebra.proofs.Rows.{total_agree, rows_equal, zeros_row, add_row, all_zero_zeros, interchange, Codes, total_zeros, at_one_length}
 use Rattle.algebra.proofs.Maps.{pull, pull_word, extended, pull_passes, pull_inside, extended_times, total_normal_form}
 use Rattle.algebra.proofs.Accounts.{ruled, form_account, commutator_account, negative_account, entries_append}
@@ -73,7 +73,7 @@ module _ {R : Ring} (laws : CommutativeRing R) (B : System) (good : LawfulSystem
   as_multiples_total f (e ∷ es) =
       let x = multiple R e.code e.multiplier (rule R B e.place) in
       total_append laws f (x ++ []) (sum_of_multiples R B (as_multiples es))
-      ∙ (λ i. R.sum ((total_append laws f x [] ∙ plus_zero laws _ (total_below laws f x)) i) (as_multiples_total f es i)) ∙ sym (total_append laws f x (sum_of_entries R B es))
+      ∙ (λ i. R.sum ((total_append laws f x [] ∙ laws.sum_zero _ (total_below laws f x)) i) (as_multiples_total f es i)) ∙ sym (total_append laws f x (sum_of_entries R B es))
 
   -- what equals the sum of entries lies in the ideal
   entries_in_ideal : (p : Polynomial) (es : List Entry) → Multipliers B.variables es → ((f : Term → ℕ) → total R f p ≡ total R f (sum_of_entries R B es)) → InIdeal R B p
