@@ -13,7 +13,7 @@ use Rattle.algebra.specs.Walk.{unit, image, mapped, last_row, entry_at, step_ent
 use Rattle.algebra.specs.Clash.{twice, commutator, commutator_entries, negative_row, negative_entries}
 use Rattle.algebra.proofs.Terms.{has_head, has_tail, times_product, one_product, product_one, spelled_word, spelled_length, times_comm, word_letters}
 use Rattle.algebra.proofs.Borders.{stands, product_leads, not_in_border, not_in_set, place_absent, rule_at, term_in_variables, first_term}
-use Rattle.algebra.proofs.Totals.{total, zero_plus, plus_zero, total_below, total_append, total_negative, total_multiple, equal_from_totals}
+use Rattle.algebra.proofs.Totals.{total, zero_plus, total_below, total_append, total_negative, total_multiple, equal_from_totals}
 use Rattle.algebra.proofs.Rows.{interchange, total_add, total_zeros, total_at_one, total_agree, total_negative_row}
 use Rattle.algebra.proofs.Maps.{pull, total_mapped, pull_inside}
 
@@ -51,7 +51,7 @@ module _ {R : Ring} (laws : CommutativeRing R) (B : System) (good : LawfulSystem
 
   one_entry : (f : Term → ℕ) (c : ℕ) (m : Term) (k : ℕ) → total R f (sum_of_entries R B (entry_at c m (suc k))) ≡ R.product c (total R (λ u. f (term.product m u)) (rule R B (suc k)))
   one_entry f c m k =
-      total_append laws f (multiple R c m (rule R B (suc k))) [] ∙ plus_zero laws _ (total_below laws f (multiple R c m (rule R B (suc k))))
+      total_append laws f (multiple R c m (rule R B (suc k))) [] ∙ laws.sum_zero _ (total_below laws f (multiple R c m (rule R B (suc k))))
       ∙ total_multiple laws f c m (rule R B (suc k))
 
   -- one code of a step
@@ -82,7 +82,7 @@ module _ {R : Ring} (laws : CommutativeRing R) (B : System) (good : LawfulSystem
             let nothing : listed c t ≡ [] =
             cond-false _ [] (entry_at c m (place (times i t) (borders B))) e ∙ ap (entry_at c m) (place_absent (times i t) (borders B) (not_in_border B.variables B.terms (times i t) k)) in
             ap (R.product c) (moved t h) ∙ sym (product_right laws c (after (times i t))) ∙ ap (R.product c) (sym (pull_inside laws B good.is_connected after i t k))
-            ∙ sym (plus_zero laws _ (product_below c (pull R B i after t))) ∙ ap (λ (es : List Entry). R.sum (R.product c (pull R B i after t)) (total R f (sum_of_entries R B es))) (sym nothing)
+            ∙ sym (laws.sum_zero _ (product_below c (pull R B i after t))) ∙ ap (λ (es : List Entry). R.sum (R.product c (pull R B i after t)) (total R f (sum_of_entries R B es))) (sym nothing)
 
         outside : eqb c 0 ≡ false → has (times i t) (borders B) ≡ true → R.product c (f (term.product (times i m) t)) ≡ R.sum (R.product c (pull R B i after t)) (total R f (sum_of_entries R B (listed c t)))
         outside e k =
@@ -108,7 +108,7 @@ module _ {R : Ring} (laws : CommutativeRing R) (B : System) (good : LawfulSystem
   walk_account : (f : Term → ℕ) (v : Row) (w : List ℕ) → Letters B.variables w → total R (λ t. f (term.product (spelled w) t)) (combination v B.terms) ≡ R.sum (total R f (combination (last_row R B v w) B.terms)) (total R f (sum_of_entries R B (entries R B v w)))
   walk_account f v [] l =
       total_agree laws (λ t. f (term.product one t)) f v B.terms (λ t h. ap f (one_product t (term_in_variables B.variables B.terms good.is_connected t h).0))
-      ∙ sym (plus_zero laws _ (total_below laws f (combination v B.terms)))
+      ∙ sym (laws.sum_zero _ (total_below laws f (combination v B.terms)))
   walk_account f v (i ∷ w) l =
       step_account f i (spelled w) l.0 (spelled_length w) v B.terms (λ t h. h)
       ∙ ap (λ (k : ℕ). R.sum k (total R f (sum_of_entries R B (step_entries B i (spelled w) v B.terms))))
@@ -164,9 +164,9 @@ module _ {R : Ring} (laws : CommutativeRing R) (B : System) (good : LawfulSystem
   -- where p and x come to the same as r and y, r less p is x less y
   crossed : (p x r y : ℕ) → x < R.order → r < R.order → R.sum p x ≡ R.sum r y → R.sum r (R.negative p) ≡ R.sum x (R.negative y)
   crossed p x r y hx hr e =
-      let lost : R.sum (R.sum r y) (R.negative y) ≡ r = sum_assoc r y (R.negative y) ∙ ap (R.sum r) (sum_negative y) ∙ plus_zero laws r hr in
+      let lost : R.sum (R.sum r y) (R.negative y) ≡ r = sum_assoc r y (R.negative y) ∙ ap (R.sum r) (sum_negative y) ∙ laws.sum_zero r hr in
       ap (λ (k : ℕ). R.sum k (R.negative p)) (sym lost ∙ ap (λ (k : ℕ). R.sum k (R.negative y)) (sym e ∙ sum_comm p x) ∙ sum_assoc x p (R.negative y) ∙ ap (R.sum x) (sum_comm p (R.negative y)) ∙ sym (sum_assoc x (R.negative y) p))
-      ∙ sum_assoc _ p (R.negative p) ∙ ap (R.sum (R.sum x (R.negative y))) (sum_negative p) ∙ plus_zero laws _ (sum_below x (R.negative y))
+      ∙ sum_assoc _ p (R.negative p) ∙ ap (R.sum (R.sum x (R.negative y))) (sum_negative p) ∙ laws.sum_zero _ (sum_below x (R.negative y))
 
   pub commutator_account : (f : Term → ℕ) (a b : ℕ) (t : Term) → a < B.variables → b < B.variables → total R f (combination (commutator R B a b t) B.terms) ≡ total R f (sum_of_entries R B (commutator_entries R B a b t))
   commutator_account f a b t ha hb =

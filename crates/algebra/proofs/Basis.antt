@@ -1,5 +1,6 @@
 -- The border basis theorem, and what normal forms mean. Assumes nothing.
 use Rattle.std.proofs.Common.{◌≡◌, ℕ, zero, suc, ◌<◌, Bool, true, false, cond, eqb, List, [], ◌∷◌, ◌++◌, length, get_or, sym, refl, ap, ◌∙◌, subst, ⊎_elim, arith}
+use Rattle.std.proofs.lemmas.List.{length-map}
 use Rattle.std.proofs.lemmas.Bool.{cases_lt, cond-true, cond-false, and_parts, eqb-true}
 use Rattle.field.specs.Arithmetic.{Ring, CommutativeRing, read}
 use Rattle.field.specs.Laws.{derived, positive, read_code}
@@ -13,8 +14,8 @@ use Rattle.algebra.specs.Walk.{zeros, unit, image, map_onto, mapped, last_row, e
 use Rattle.algebra.specs.Clash.{Commute, twice, commutator, commutator_entries, negative_row, negative_entries}
 use Rattle.algebra.proofs.Terms.{product_times, product_one, one_product, word_letters, spelled_in_variables, product_in_variables, one_in_variables, has_head, has_tail}
 use Rattle.algebra.proofs.Borders.{Distinct, connected_induction, connected_distinct, term_in_variables, get_or_has, place_of, border_distinct, border_multiple, product_leads, not_in_set, rule_past, stands}
-use Rattle.algebra.proofs.Totals.{total, zero_plus, plus_zero, total_below, total_append, total_multiple, total_difference, equal_from_totals, totals_from_equal}
-use Rattle.algebra.proofs.Rows.{total_agree, rows_equal, zeros_row, add_row, all_zero_zeros, interchange, Codes, total_zeros, map_length, at_one_length}
+use Rattle.algebra.proofs.Totals.{total, zero_plus, total_below, total_append, total_multiple, total_difference, equal_from_totals, totals_from_equal}
+use Rattle.algebra.proofs.Rows.{total_agree, rows_equal, zeros_row, add_row, all_zero_zeros, interchange, Codes, total_zeros, at_one_length}
 use Rattle.algebra.proofs.Maps.{pull, pull_word, extended, pull_passes, pull_inside, extended_times, total_normal_form}
 use Rattle.algebra.proofs.Accounts.{ruled, form_account, commutator_account, negative_account, entries_append}
 
@@ -72,7 +73,7 @@ module _ {R : Ring} (laws : CommutativeRing R) (B : System) (good : LawfulSystem
   as_multiples_total f (e ∷ es) =
       let x = multiple R e.code e.multiplier (rule R B e.place) in
       total_append laws f (x ++ []) (sum_of_multiples R B (as_multiples es))
-      ∙ (λ i. R.sum ((total_append laws f x [] ∙ plus_zero laws _ (total_below laws f x)) i) (as_multiples_total f es i)) ∙ sym (total_append laws f x (sum_of_entries R B es))
+      ∙ (λ i. R.sum ((total_append laws f x [] ∙ laws.sum_zero _ (total_below laws f x)) i) (as_multiples_total f es i)) ∙ sym (total_append laws f x (sum_of_entries R B es))
 
   -- what equals the sum of entries lies in the ideal
   entries_in_ideal : (p : Polynomial) (es : List Entry) → Multipliers B.variables es → ((f : Term → ℕ) → total R f p ≡ total R f (sum_of_entries R B es)) → InIdeal R B p
@@ -88,7 +89,7 @@ module _ {R : Ring} (laws : CommutativeRing R) (B : System) (good : LawfulSystem
   image_length i t h k = ⊎_elim inside outside (product_leads B.variables i B.terms t h k)
     where
       inside : has (times i t) B.terms ≡ true → length (image B i t) ≡ length B.terms
-      inside e = ap (λ (v : Row). length v) (cond-true _ (unit B.terms (times i t)) _ e) ∙ map_length _ B.terms
+      inside e = ap (λ (v : Row). length v) (cond-true _ (unit B.terms (times i t)) _ e) ∙ length-map B.terms _
 
       outside : has (times i t) (borders B) ≡ true → length (image B i t) ≡ length B.terms
       outside e =
@@ -101,7 +102,7 @@ module _ {R : Ring} (laws : CommutativeRing R) (B : System) (good : LawfulSystem
   map_onto_row i h acc (c ∷ v) [] within a = a
   map_onto_row i h acc (c ∷ v) (t ∷ ts) within a =
       map_onto_row i h (add_rows R acc (scale R c (image B i t))) v ts (λ s k. within s (has_tail s t ts k))
-      (add_row laws B.terms acc (scale R c (image B i t)) a.0 (map_length _ (image B i t) ∙ image_length i t h (within t (has_head t ts))))
+      (add_row laws B.terms acc (scale R c (image B i t)) a.0 (length-map (image B i t) _ ∙ image_length i t h (within t (has_head t ts))))
 
   pub mapped_row : (i : ℕ) → i < B.variables → (v : Row) → IsRow R B.terms (mapped R B i v)
   mapped_row i h v = map_onto_row i h (zeros B.terms) v B.terms (λ t k. k) (zeros_row laws B.terms)
@@ -121,7 +122,7 @@ module _ {R : Ring} (laws : CommutativeRing R) (B : System) (good : LawfulSystem
 
   pub commutator_row : (a b : ℕ) (t : Term) → a < B.variables → b < B.variables → IsRow R B.terms (commutator R B a b t)
   commutator_row a b t ha hb =
-      add_row laws B.terms (twice R B a b t) (negative_row R (twice R B b a t)) (mapped_row a ha _).0 (map_length _ (twice R B b a t) ∙ (mapped_row b hb _).0)
+      add_row laws B.terms (twice R B a b t) (negative_row R (twice R B b a t)) (mapped_row a ha _).0 (length-map (twice R B b a t) _ ∙ (mapped_row b hb _).0)
 
   pub commutator_in_ideal : (a b : ℕ) (t : Term) → a < B.variables → b < B.variables → InIdeal R B (combination (commutator R B a b t) B.terms)
   commutator_in_ideal a b t ha hb =

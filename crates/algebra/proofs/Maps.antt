@@ -10,7 +10,7 @@ use Rattle.algebra.specs.Border.{Row, System, combination, connected}
 use Rattle.algebra.specs.Walk.{zeros, add_rows, scale, unit, image, map_onto, mapped, last_row, at_one, form_onto, normal_form}
 use Rattle.algebra.specs.Clash.{twice, Commute}
 use Rattle.algebra.proofs.Borders.{first_term, connected_distinct, has_one}
-use Rattle.algebra.proofs.Totals.{total, zero_plus, plus_zero, total_below}
+use Rattle.algebra.proofs.Totals.{total, zero_plus, total_below}
 use Rattle.algebra.proofs.Rows.{total_add, total_scale, total_zeros, total_unit, total_at_one, total_agree}
 
 -- the weight of the image of a term
@@ -33,8 +33,8 @@ module _ {R : Ring} (laws : CommutativeRing R) (B : System) where
   open derived laws use {sum_assoc}
 
   total_map_onto : (f : Term → ℕ) (i : ℕ) (acc v : Row) (ts : List Term) → total R f (combination (map_onto R B i acc v ts) B.terms) ≡ R.sum (total R f (combination acc B.terms)) (total R (pull R B i f) (combination v ts))
-  total_map_onto f i acc [] ts = sym (plus_zero laws _ (total_below laws f (combination acc B.terms)))
-  total_map_onto f i acc (c ∷ v) [] = sym (plus_zero laws _ (total_below laws f (combination acc B.terms)))
+  total_map_onto f i acc [] ts = sym (laws.sum_zero _ (total_below laws f (combination acc B.terms)))
+  total_map_onto f i acc (c ∷ v) [] = sym (laws.sum_zero _ (total_below laws f (combination acc B.terms)))
   total_map_onto f i acc (c ∷ v) (t ∷ ts) =
       total_map_onto f i (add_rows R acc (scale R c (image B i t))) v ts
       ∙ ap (λ (k : ℕ). R.sum k (total R (pull R B i f) (combination v ts)))
@@ -64,7 +64,7 @@ module _ {R : Ring} (laws : CommutativeRing R) (B : System) where
 
   -- the normal form under a weight
   total_form_onto : (f : Term → ℕ) (first : Term) (rest : List Term) → B.terms ≡ first ∷ rest → first ≡ one → (acc : Row) (p : Polynomial) → total R f (combination (form_onto R B acc p) B.terms) ≡ R.sum (total R f (combination acc B.terms)) (total R (extended R B f) p)
-  total_form_onto f first rest is at acc [] = sym (plus_zero laws _ (total_below laws f (combination acc B.terms)))
+  total_form_onto f first rest is at acc [] = sym (laws.sum_zero _ (total_below laws f (combination acc B.terms)))
   total_form_onto f first rest is at acc (x ∷ p) =
       total_form_onto f first rest is at (add_rows R acc (last_row R B (at_one x.0 B.terms) (word x.1))) p
       ∙ ap (λ (k : ℕ). R.sum k (total R (extended R B f) p))

@@ -1,5 +1,6 @@
 -- Rows under weights: the total of a row's combination is linear in the row. Assumes nothing.
 use Rattle.std.proofs.Common.{◌≡◌, ℕ, suc, ◌<◌, true, false, List, [], ◌∷◌, map, length, sym, refl, ap, ◌∙◌, ⊎_elim, arith}
+use Rattle.std.proofs.lemmas.List.{length-map}
 use Rattle.std.proofs.lemmas.Bool.{cases_Bool, cond-true, cond-false, cond_both, both_ways, or_parts, and_parts, eqb-true}
 use Rattle.field.specs.Arithmetic.{Ring, CommutativeRing, read}
 use Rattle.field.specs.Laws.{derived, positive, read_code, sum_right}
@@ -9,7 +10,7 @@ use Rattle.algebra.specs.Walk.{zeros, add_rows, scale, unit, at_one, all_zero}
 use Rattle.algebra.specs.Clash.{negative_row}
 use Rattle.algebra.proofs.Terms.{same_true, same_refl, same_sym, apart, has_head, has_tail, has_cases}
 use Rattle.algebra.proofs.Borders.{Distinct}
-use Rattle.algebra.proofs.Totals.{indicator, total, zero_plus, plus_zero, total_below}
+use Rattle.algebra.proofs.Totals.{indicator, total, zero_plus, total_below}
 
 -- a weight whose values are codes
 abbrev pub Codes : Ring → (Term → ℕ) → Type 0
@@ -23,7 +24,7 @@ module _ {R : Ring} (laws : CommutativeRing R) where
 
   pub total_add : (f : Term → ℕ) (v w : Row) (ts : List Term) → total R f (combination (add_rows R v w) ts) ≡ R.sum (total R f (combination v ts)) (total R f (combination w ts))
   total_add f [] w ts = sym (zero_plus laws _ (total_below laws f (combination w ts)))
-  total_add f (a ∷ v) [] ts = sym (plus_zero laws _ (total_below laws f (combination (a ∷ v) ts)))
+  total_add f (a ∷ v) [] ts = sym (laws.sum_zero _ (total_below laws f (combination (a ∷ v) ts)))
   total_add f (a ∷ v) (b ∷ w) [] = sym (zero_plus laws 0 (positive laws))
   total_add f (a ∷ v) (b ∷ w) (t ∷ ts) = (λ i. R.sum (sum_product a b (f t) i) (total_add f v w ts i)) ∙ interchange _ _ _ _
 
@@ -43,7 +44,7 @@ module _ {R : Ring} (laws : CommutativeRing R) where
   total_zeros f (u ∷ us) (t ∷ ts) = (λ i. R.sum (zero_product (f t) i) (total_zeros f us ts i)) ∙ zero_plus laws 0 (positive laws)
 
   pub total_at_one : (f : Term → ℕ) (c : ℕ) (t : Term) (ts : List Term) → total R f (combination (at_one c (t ∷ ts)) (t ∷ ts)) ≡ R.product c (f t)
-  total_at_one f c t ts = ap (R.sum (R.product c (f t))) (total_zeros f ts ts) ∙ plus_zero laws _ (product_below c (f t))
+  total_at_one f c t ts = ap (R.sum (R.product c (f t))) (total_zeros f ts ts) ∙ laws.sum_zero _ (product_below c (f t))
 
   -- the row of a term that is not there is 0
   total_unit_absent : (f : Term → ℕ) (t : Term) (ts : List Term) → has t ts ≡ false → total R f (combination (unit ts t) ts) ≡ 0
@@ -61,16 +62,13 @@ module _ {R : Ring} (laws : CommutativeRing R) where
       here e =
           let p = same_true u t e in
           (λ i. R.sum (R.product (cond-true _ 1 0 e i) (f (p i))) (total_unit_absent f t ts (ap (λ (s : Term). has s ts) (sym p) ∙ d.0) i))
-          ∙ plus_zero laws _ (product_below 1 (f t)) ∙ one_product (f t)
+          ∙ laws.sum_zero _ (product_below 1 (f t)) ∙ one_product (f t)
 
       passed : (has t ts ≡ true → total R f (combination (unit ts t) ts) ≡ read R.order (f t)) → same u t ≡ false → total R f (combination (unit (u ∷ ts) t) (u ∷ ts)) ≡ read R.order (f t)
       passed rest e =
           let k : has t ts ≡ true = ⊎_elim (λ q. absurd (apart u t e (sym q))) (λ q. q) (has_cases t u ts h) in
           (λ i. R.sum (R.product (cond-false _ 1 0 e i) (f u)) (rest k i))
-          ∙ ap (λ (j : ℕ). R.sum j (read R.order (f t))) (zero_product (f u)) ∙ sum_right laws 0 (f t) ∙ zero_sum_read (f t)
-        where
-          zero_sum_read : (x : ℕ) → R.sum 0 x ≡ read R.order x
-          zero_sum_read x = (derived laws).zero_sum x
+          ∙ ap (λ (j : ℕ). R.sum j (read R.order (f t))) (zero_product (f u)) ∙ sum_right laws 0 (f t) ∙ (derived laws).zero_sum (f t)
 
   -- two weights that agree on the terms give a row the same total
   pub total_agree : (f g : Term → ℕ) (v : Row) (ts : List Term) → ((t : Term) → has t ts ≡ true → f t ≡ g t) → total R f (combination v ts) ≡ total R g (combination v ts)
@@ -91,7 +89,7 @@ module _ {R : Ring} (laws : CommutativeRing R) where
   total_indicator_head : (t : Term) (c : ℕ) (v : Row) (ts : List Term) → c < R.order → has t ts ≡ false → total R (indicator t) (combination (c ∷ v) (t ∷ ts)) ≡ c
   total_indicator_head t c v ts h new =
       (λ i. R.sum (R.product c (cond-true _ 1 0 (same_refl t) i)) (total_indicator_absent t v ts new i))
-      ∙ plus_zero laws _ (product_below c 1) ∙ product_one c ∙ read_code _ c h
+      ∙ laws.sum_zero _ (product_below c 1) ∙ product_one c ∙ read_code _ c h
 
   indicator_code : (t : Term) → Codes R (indicator t)
   indicator_code t s = cond_both (same s t) 1 0 (λ x. x < R.order) (λ _. laws.order_low) (λ _. positive laws)
@@ -146,4 +144,4 @@ map_length f (x ∷ xs) = ap suc (map_length f xs)
 
 pub at_one_length : (c : ℕ) (ts : List Term) → length (at_one c ts) ≡ length ts
 at_one_length c [] = refl
-at_one_length c (t ∷ ts) = ap suc (map_length _ ts)
+at_one_length c (t ∷ ts) = ap suc (length-map ts _)

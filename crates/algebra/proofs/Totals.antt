@@ -28,9 +28,6 @@ module _ {R : Ring} (laws : CommutativeRing R) where
   pub zero_plus : (x : ℕ) → x < R.order → R.sum 0 x ≡ x
   zero_plus x h = zero_sum x ∙ read_code _ x h
 
-  pub plus_zero : (x : ℕ) → x < R.order → R.sum x 0 ≡ x
-  plus_zero x h = sum_zero x ∙ read_code _ x h
-
   pub total_below : (f : Term → ℕ) (p : Polynomial) → total R f p < R.order
   total_below f [] = positive laws
   total_below f (x ∷ p) = sum_below _ _
@@ -71,7 +68,7 @@ module _ {R : Ring} (laws : CommutativeRing R) where
   equal_from_totals p q h t = coefficient_total t p ∙ h (indicator t) ∙ sym (coefficient_total t q)
 
   total_split : (f : Term → ℕ) (m : Term) (p : Polynomial) → total R f p ≡ R.sum (R.product (coefficient R p m) (f m)) (total R f (without m p))
-  total_split f m [] = sym (ap (λ (k : ℕ). R.sum k 0) (zero_product (f m)) ∙ plus_zero 0 (positive laws))
+  total_split f m [] = sym (ap (λ (k : ℕ). R.sum k 0) (zero_product (f m)) ∙ laws.sum_zero 0 (positive laws))
   total_split f m (x ∷ p) = ⊎_elim (here (total_split f m p)) (passed (total_split f m p)) (cases_Bool (same x.1 m))
     where
       here : total R f p ≡ R.sum (R.product (coefficient R p m) (f m)) (total R f (without m p)) → same x.1 m ≡ true → total R f (x ∷ p) ≡ R.sum (R.product (coefficient R (x ∷ p) m) (f m)) (total R f (without m (x ∷ p)))
@@ -123,7 +120,7 @@ module _ {R : Ring} (laws : CommutativeRing R) where
   vanishes zero (x ∷ r) h zeros f = absurd (omega arith)
   vanishes (suc k) (x ∷ r) h zeros f =
       total_split f m (x ∷ r) ∙ (λ i. R.sum (R.product (zeros m i) (f m)) (vanishes k (without m (x ∷ r)) shorter zero_still f i))
-      ∙ ap (λ (j : ℕ). R.sum j 0) (zero_product (f m)) ∙ plus_zero 0 (positive laws)
+      ∙ ap (λ (j : ℕ). R.sum j 0) (zero_product (f m)) ∙ laws.sum_zero 0 (positive laws)
     where
       m : Term
       m = x.1

@@ -25,16 +25,19 @@ pub struct Clash {
 }
 
 // A row times a word is the last row of the walk plus its entries, whatever the rules are.
+#[tactic(auto, using(crate::proofs::Clashes::walks_account_always))]
 pub fn walks_account()
     ensures { WalksAccountAlways }
 {}
 
 // The maps commute on S exactly when no combination of S but zero lies in the ideal of the rules.
+#[tactic(auto, using(crate::proofs::Clashes::border_basis_theorem))]
 pub fn border_basis()
     ensures { BorderBasisTheorem }
 {}
 
 // Where the maps commute, normal forms are equal exactly when the difference lies in the ideal.
+#[tactic(auto, using(crate::proofs::Clashes::normal_form_theorem))]
 pub fn normal_forms()
     ensures { NormalFormTheorem }
 {}

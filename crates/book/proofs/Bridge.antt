@@ -25,6 +25,13 @@ Stored B stored = (k : ℕ) → k < length (borders B) → (length B.terms ≤ l
 abbrev pub Led : System → List (List Lead) → Type 0
 Led B leads = (i : ℕ) → i < B.variables → (more : List Lead) × (get_or leads i [] ≡ leads_of B.terms (borders B) i B.terms ++ more)
 
+-- a row cleared is the row of zeros
+pub zeros_like_is : (v : Row) (ts : List Term) → length v ≡ length ts → zeros_like v ≡ zeros ts
+zeros_like_is [] [] h = refl
+zeros_like_is [] (t ∷ ts) h = absurd (omega arith)
+zeros_like_is (a ∷ v) [] h = absurd (omega arith)
+zeros_like_is (a ∷ v) (t ∷ ts) h = ap (λ (u : Row). 0 ∷ u) (zeros_like_is v ts (omega arith))
+
 module _ {R : Ring} (laws : CommutativeRing R) where
   -- a multiple of a longer row is added as its front
   add_multiple_is : (v : Row) (c : ℕ) (w : Row) → length v ≤ length w → add_multiple R v c w ≡ add_rows R v (scale R c (take (length v) w))
@@ -72,12 +79,6 @@ module _ {R : Ring} (laws : CommutativeRing R) where
           sym (ap (λ (x : ℕ). R.sum a (R.product c x)) (cond-false _ 1 0 (same_sym e t q)) ∙ ap (R.sum a) ((derived laws).product_zero c) ∙ (derived laws).sum_zero a ∙ read_code _ a k.0) in
           ap (λ (j : ℕ). add_at R (a ∷ v) j c) (cond-false _ 1 _ q ∙ ap next_place s.is_place)
           ∙ ap (λ (u : Row). a ∷ u) (ap (λ (j : ℕ). add_at R v j c) (sym s.is_place) ∙ rest there) ∙ ap (λ (x : ℕ). x ∷ add_rows R v (scale R c (unit ts e))) head
-
-  pub zeros_like_is : (v : Row) (ts : List Term) → length v ≡ length ts → zeros_like v ≡ zeros ts
-  zeros_like_is [] [] h = refl
-  zeros_like_is [] (t ∷ ts) h = absurd (omega arith)
-  zeros_like_is (a ∷ v) [] h = absurd (omega arith)
-  zeros_like_is (a ∷ v) (t ∷ ts) h = ap (λ (u : Row). 0 ∷ u) (zeros_like_is v ts (omega arith))
 
   module _ (B : System) (good : LawfulSystem B) (stored : List Row) (holds : Stored B stored) where
     one_led : (i : ℕ) (acc : Row) (c : ℕ) (t : Term) → i < B.variables → IsRow R B.terms acc → has t B.terms ≡ true → cond (eqb c 0) acc (add_led R stored acc c (lead B.terms (borders B) (times i t))) ≡ add_rows R acc (scale R c (image B i t))

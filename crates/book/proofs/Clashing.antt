@@ -21,8 +21,8 @@ use Rattle.term.specs.Letters.{raised}
 use Rattle.term.proofs.Letters.{raised_times}
 use Rattle.row.specs.declared.lead.Lead.{Lead}
 use Rattle.row.specs.Sums.{subtract}
-use Rattle.row.specs.Listing.{Listed, listed_all, step_led}
-use Rattle.row.proofs.Listing.{listing, listed_all_append, listed_whole}
+use Rattle.row.specs.Listing.{Listed, listing, listed_all, step_led}
+use Rattle.row.proofs.Listing.{listed_all_append, listed_whole}
 use Rattle.book.specs.declared.contents.Contents.{Contents}
 use Rattle.book.specs.Effects.{written}
 use Rattle.book.specs.Kept.{kept, ready, terms_of, ledger}
@@ -254,10 +254,10 @@ witness R B good size a b t slots s₁ s₂ m e long p q =
       count = end ∙ sym (length-append E (negative_entries R F) ∙ ap (λ (n : ℕ). length E + n) (map_length _ F));
     }
 
-pub clash_witness : (R : Ring) (k : Contents) → kept k ≡ true → ready k ≡ true → (x : Clash) (slots s₁ s₂ : List Entry) (m e : ℕ) → 2 * k.basis.size + 2 ≤ length slots → listing s₁ m ≡ listed_all (listing slots 0) (entries R (system (ledger k)) (unit (terms_of k) (get_or (terms_of k) x.term [])) (x.a ∷ x.b ∷ [])) → listing s₂ e ≡ listed_all (listing s₁ m) (entries R (system (ledger k)) (unit (terms_of k) (get_or (terms_of k) x.term [])) (x.b ∷ x.a ∷ [])) → Witness R (system (ledger k)) x.a x.b (get_or (terms_of k) x.term []) slots s₂ m e
+pub clash_witness : (R : Ring) (k : Contents) → kept k ≡ true → ready k ≡ true → (x : Clash) (slots s₁ s₂ : List Entry) (m e : ℕ) → 2 * length (terms_of k) + 2 ≤ length slots → listing s₁ m ≡ listed_all (listing slots 0) (entries R (system (ledger k)) (unit (terms_of k) (get_or (terms_of k) x.term [])) (x.a ∷ x.b ∷ [])) → listing s₂ e ≡ listed_all (listing s₁ m) (entries R (system (ledger k)) (unit (terms_of k) (get_or (terms_of k) x.term [])) (x.b ∷ x.a ∷ [])) → Witness R (system (ledger k)) x.a x.b (get_or (terms_of k) x.term []) slots s₂ m e
 clash_witness R k h r x slots s₁ s₂ m e long p q =
     let f = ready_contents k h r in
-    witness R (system (ledger k)) f.good f.few x.a x.b (get_or (terms_of k) x.term []) slots s₁ s₂ m e (omega (arith, long, f.size)) p q
+    witness R (system (ledger k)) f.good f.few x.a x.b (get_or (terms_of k) x.term []) slots s₁ s₂ m e long p q
 
 -- a loop that negates the codes of entries
 abbrev pub negative_entry : Ring → Entry → Entry

@@ -14,9 +14,10 @@ use Rattle.book.specs.declared.refusal.Refusal.TheVariants.{WrongPhase, NoTerms}
 use Rattle.book.specs.Phases.{allowed}
 use Rattle.book.specs.Judge.{refuse, refuse_phase, judge_close, granted}
 use Rattle.book.specs.Effects.{closed}
-use Rattle.book.specs.Kept.{terms_of, kept_rows, rows_of, terms_fit, led, all_long, kept, ledger}
+use Rattle.book.specs.Kept.{terms_of, kept_rows, rows_of, led, all_long, kept, ledger}
 use Rattle.book.proofs.Granting.{none_from, refuse_none}
 use Rattle.book.proofs.Keeping.{facts, keep}
+use Rattle.book.proofs.Ready.{fit_connected}
 
 -- contents that are closed with a border and rules
 abbrev pub shut : Contents → Border → Rules → Contents
@@ -45,18 +46,21 @@ some_terms k e =
     let q = refuse_none (eqb (length (terms_of k)) 0) NoTerms None p.1 in
     eqb-false (length (terms_of k)) 0 q.0
 
-fit_connected : (n : ℕ) (S : List Term) → terms_fit n S ≡ true → (length S ≡ 0 → ⊥) → connected n S ≡ true
-fit_connected n [] f some = absurd (some refl)
-fit_connected n (t ∷ ts) f some = f
+at_least_one : (m : ℕ) → (m ≡ 0 → ⊥) → 1 ≤ m
+at_least_one zero ne = absurd (ne refl)
+at_least_one (suc m) ne = omega arith
 
 pub close_connected : (k : Contents) → kept k ≡ true → judge_close (ledger k) ≡ None → connected k.basis.variables (terms_of k) ≡ true
-close_connected k h e = fit_connected k.basis.variables (terms_of k) (facts k h).fit (some_terms k e)
+close_connected k h e = fit_connected k.basis.variables (terms_of k) (at_least_one (length (terms_of k)) (some_terms k e)) (facts k h).fit
 
--- no rule is given for any term of a list
-no_rows : (D : ℕ) (es : List Term) (rows : List Row) → length es ≤ length rows → kept_rows D (replicate (length es) false) rows ≡ map (λ (_ : Term). None) es
-no_rows D [] rows h = refl
-no_rows D (e ∷ es) [] h = absurd (omega arith)
-no_rows D (e ∷ es) (r ∷ rows) h = ap (λ (os : List (Option Row)). None ∷ os) (no_rows D es rows (omega arith))
+-- no term of a list has a rule
+no_rows : (D : ℕ) (es : List Term) → kept_rows D (replicate (length es) None) ≡ map (λ (_ : Term). None) es
+no_rows D [] = refl
+no_rows D (e ∷ es) = ap (λ (os : List (Option Row)). None ∷ os) (no_rows D es)
+
+all_long_none : (m : ℕ) → all_long (replicate m None) ≡ true
+all_long_none zero = refl
+all_long_none (suc m) = all_long_none m
 
 pub record Shut (k : Contents) (b : Border) (r : Rules) : Type 0 where
   pub still_kept : kept (shut k b r) ≡ true
@@ -64,15 +68,15 @@ pub record Shut (k : Contents) (b : Border) (r : Rules) : Type 0 where
 
 module _ (k : Contents) (b : Border) (r : Rules) (h : kept k ≡ true) (e : judge_close (ledger k) ≡ None) where
   -- with the border that was laid, its leads, and no rule
-  pub shut_kept : b.size ≤ 256 → take b.size b.terms ≡ border k.basis.variables (terms_of k) → b.size ≡ length (border k.basis.variables (terms_of k)) → led (terms_of k) (take b.size b.terms) 0 k.basis.variables b.leads ≡ true → r.given ≡ replicate 256 false → r.rows ≡ k.rules.rows → length r.rows ≡ 256 → Shut k b r
-  shut_kept small is size leads none same deep =
+  pub shut_kept : b.terms ≡ border k.basis.variables (terms_of k) → length b.terms ≤ 256 → led (terms_of k) b.terms 0 k.basis.variables b.leads.columns ≡ true → r.rows ≡ replicate 256 None → Shut k b r
+  shut_kept is small leads none =
       let f = facts k h in
       let n = k.basis.variables in
       let S = terms_of k in
-      let given : take b.size r.given ≡ replicate (length (border n S)) false =
-      ap (take b.size) none ∙ take-replicate b.size 256 false small ∙ ap (λ (m : ℕ). replicate m false) size in
+      let m = length b.terms in
       let rows : rows_of (shut k b r) ≡ map (λ (_ : Term). None) (border n S) =
-      ap (λ (gs : List Bool). kept_rows k.basis.size gs r.rows) given ∙ no_rows k.basis.size (border n S) r.rows (omega arith) in
+      ap (λ (os : List (Option Row)). kept_rows (length S) (take m os)) none ∙ ap (kept_rows (length S)) (take-replicate m 256 None small)
+      ∙ no_rows (length S) b.terms ∙ ap (map (λ (_ : Term). None)) is in
       record {
         still_kept =
             keep (shut k b r) (record {
@@ -84,12 +88,8 @@ module _ (k : Contents) (b : Border) (r : Rules) (h : kept k ≡ true) (e : judg
               is_border = is;
               is_led = leads;
               is_complete = le-leb 1 (length S) (at_least_one (length S) (some_terms k e));
-              long_rows = ap all_long same ∙ f.long_rows;
-              arrays = record { terms_long = f.arrays.terms_long; border_counted = ap (λ (es : List Term). length es) is ∙ sym size; given_long = ap (λ (gs : List Bool). length gs) none; rows_long = deep };
+              long_rows = ap all_long none ∙ all_long_none 256;
+              rows_long = ap (λ (os : List (Option Row)). length os) none;
             });
         is_ledger = λ i. record { variables = n; terms = S; phase = Closed; rows = rows i };
       }
-    where
-      at_least_one : (m : ℕ) → (m ≡ 0 → ⊥) → 1 ≤ m
-      at_least_one zero ne = absurd (ne refl)
-      at_least_one (suc m) ne = omega arith

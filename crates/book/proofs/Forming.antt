@@ -14,6 +14,7 @@ use Rattle.algebra.proofs.Borders.{first_term}
 use Rattle.algebra.proofs.Rows.{add_row, at_one_length, map_length}
 use Rattle.algebra.proofs.Basis.{last_row_length, mapped_row}
 use Rattle.row.specs.Sums.{add_multiple, zeros_like}
+use Rattle.row.specs.Leads.{given_rows}
 use Rattle.row.specs.Listing.{Listed, listed_all, walk_row, walk_entries}
 use Rattle.row.proofs.Listing.{listed_all_append}
 use Rattle.book.specs.declared.contents.Contents.{Contents}
@@ -66,10 +67,10 @@ pub record Formed (R : Ring) (B : System) (p : Polynomial) (start : Listed) (i :
 
 -- the first j rows of a table are written
 abbrev pub Tabled : Ring → Contents → ℕ → ℕ → Row → Type 0
-Tabled R k i j table = take (j * k.basis.size) table ≡ table_rows R (system (ledger k)) i (take j (terms_of k))
+Tabled R k i j table = take (j * length (terms_of k)) table ≡ table_rows R (system (ledger k)) i (take j (terms_of k))
 
 pub tabled_none : (R : Ring) (k : Contents) (i : ℕ) (table : Row) → Tabled R k i 0 table
-tabled_none R k i table = ap (λ (m : ℕ). take m table) (zero-mul k.basis.size)
+tabled_none R k i table = ap (λ (m : ℕ). take m table) (zero-mul (length (terms_of k)))
 
 module _ {R : Ring} (laws : CommutativeRing R) where
   -- a row added once
@@ -94,9 +95,9 @@ module _ {R : Ring} (laws : CommutativeRing R) where
         let long = ap (λ (ts : List Term). length ts) f.1 in
         omega arith
 
-    pub formed_none : (p : Polynomial) (start : Listed) (v row : Row) → length v ≡ k.basis.size → row ≡ zeros_like v → Formed R B p start 0 row start
+    pub formed_none : (p : Polynomial) (start : Listed) (v row : Row) → length v ≡ length (terms_of k) → row ≡ zeros_like v → Formed R B p start 0 row start
     formed_none p start v row l e =
-        let is : row ≡ zeros (terms_of k) = e ∙ zeros_like_is laws v (terms_of k) (l ∙ sym a.size) in
+        let is : row ≡ zeros (terms_of k) = e ∙ zeros_like_is v (terms_of k) l in
         record {
           long = ap (λ (w : Row). length w) is ∙ map_length _ (terms_of k);
           form = ap (λ (w : Row). form_onto R B w p) is;
@@ -105,23 +106,23 @@ module _ {R : Ring} (laws : CommutativeRing R) where
 
     -- one pair more
     pub formed_more : (p : Polynomial) (start : Listed) (i : ℕ) (row : Row) (now : Listed) (last sum : Row) (next : Listed) → Over k.basis.variables p → i < length p → Formed R B p start i row now
-        → last ≡ walk_row R k.rules.rows k.border.leads (begun 32 k.basis.size (get_or p i (0, [])).0) (word (get_or p i (0, [])).1)
-        → next ≡ listed_all now (walk_entries R k.rules.rows k.border.leads (begun 32 k.basis.size (get_or p i (0, [])).0) (word (get_or p i (0, [])).1))
+        → last ≡ walk_row R (given_rows k.rules.rows) k.border.leads.columns (begun 32 (length (terms_of k)) (get_or p i (0, [])).0) (word (get_or p i (0, [])).1)
+        → next ≡ listed_all now (walk_entries R (given_rows k.rules.rows) k.border.leads.columns (begun 32 (length (terms_of k)) (get_or p i (0, [])).0) (word (get_or p i (0, [])).1))
         → sum ≡ add_multiple R row 1 last → Formed R B p start (i + 1) sum next
     formed_more p start i row now last sum next over l f e es s =
         let x = get_or p i (0, []) in
         let first = at_one x.0 (terms_of k) in
         let ls = word_letters k.basis.variables x.1 (over_at k.basis.variables p over i l) in
-        let begin : begun 32 k.basis.size x.0 ≡ first = begun_is (terms_of k) 32 k.basis.size x.0 some a.few a.size in
+        let begin : begun 32 (length (terms_of k)) x.0 ≡ first = begun_is (terms_of k) 32 (length (terms_of k)) x.0 some a.few refl in
         let first-long = at_one_length x.0 (terms_of k) in
         let last-is : last ≡ last_row R B first (word x.1) =
-        e ∙ ap (λ (v : Row). walk_row R k.rules.rows k.border.leads v (word x.1)) begin
-        ∙ walk_row_is laws B a.good k.rules.rows a.stored a.few k.border.leads a.leading first (word x.1) ls first-long in
+        e ∙ ap (λ (v : Row). walk_row R (given_rows k.rules.rows) k.border.leads.columns v (word x.1)) begin
+        ∙ walk_row_is laws B a.good (given_rows k.rules.rows) a.stored a.few k.border.leads.columns a.leading first (word x.1) ls first-long in
         let next-is : next ≡ listed_all now (entries R B first (word x.1)) =
         es
         ∙ ap (listed_all now)
-        (ap (λ (v : Row). walk_entries R k.rules.rows k.border.leads v (word x.1)) begin
-        ∙ walk_entries_is laws B a.good k.rules.rows a.stored a.few k.border.leads a.leading first (word x.1) ls first-long) in
+        (ap (λ (v : Row). walk_entries R (given_rows k.rules.rows) k.border.leads.columns v (word x.1)) begin
+        ∙ walk_entries_is laws B a.good (given_rows k.rules.rows) a.stored a.few k.border.leads.columns a.leading first (word x.1) ls first-long) in
         let last-long = last_row_length laws B a.good first (word x.1) ls first-long in
         let sum_is : sum ≡ add_rows R row (last_row R B first (word x.1)) =
         s ∙ ap (add_multiple R row 1) last-is ∙ add_once row (last_row R B first (word x.1)) (f.long ∙ sym last-long) in
@@ -141,23 +142,23 @@ module _ {R : Ring} (laws : CommutativeRing R) where
         (ap (form_onto R B row) none ∙ f.form, ap (λ (q : Polynomial). listed_all now (cofactors R B q)) none ∙ f.listed)
 
     -- one row more
-    pub tabled_more : (i j w : ℕ) (table first row : Row) → i < k.basis.variables → j < k.basis.size → length table ≡ k.basis.size * k.basis.size → Tabled R k i j table
-        → first ≡ unit (terms_of k) (get_or (terms_of k) j []) → row ≡ mapped R B i first → Tabled R k i (j + 1) (put_mid (j * k.basis.size) w table row)
+    pub tabled_more : (i j w : ℕ) (table first row : Row) → i < k.basis.variables → j < length (terms_of k) → length table ≡ length (terms_of k) * length (terms_of k) → Tabled R k i j table
+        → first ≡ unit (terms_of k) (get_or (terms_of k) j []) → row ≡ mapped R B i first → Tabled R k i (j + 1) (put_mid (j * length (terms_of k)) w table row)
     tabled_more i j w table first row h l long t e m =
-        let n = k.basis.size in
+        let n = length (terms_of k) in
         let s = get_or (terms_of k) j [] in
         let is : row ≡ mapped R B i (unit (terms_of k) s) = m ∙ ap (mapped R B i) e in
-        let row-long : length row ≡ n = ap (λ (v : Row). length v) m ∙ (mapped_row laws B a.good i h first).0 ∙ a.size in
+        let row-long : length row ≡ n = ap (λ (v : Row). length v) m ∙ (mapped_row laws B a.good i h first).0 in
         let end = row_within j n table l long in
         let next = next_row j n in
-        let more : take (j + 1) (terms_of k) ≡ take j (terms_of k) ++ s ∷ [] = take_more (terms_of k) j [] (omega (arith, a.size)) in
+        let more : take (j + 1) (terms_of k) ≡ take j (terms_of k) ++ s ∷ [] = take_more (terms_of k) j [] (omega arith) in
         take-put_mid (j * n) w table row ((j + 1) * n) (omega arith) (omega arith)
         ∙ (λ x. t x ++ (is ∙ sym (append-nil (mapped R B i (unit (terms_of k) s)))) x)
         ∙ sym (table_append R B i (take j (terms_of k)) (s ∷ [])) ∙ ap (table_rows R B i) (sym more)
 
-    pub tabled_all : (i j : ℕ) (table : Row) → k.basis.size ≤ j → j ≤ k.basis.size → length table ≡ k.basis.size * k.basis.size → Tabled R k i j table → table ≡ table_rows R B i (terms_of k)
+    pub tabled_all : (i j : ℕ) (table : Row) → length (terms_of k) ≤ j → j ≤ length (terms_of k) → length table ≡ length (terms_of k) * length (terms_of k) → Tabled R k i j table → table ≡ table_rows R B i (terms_of k)
     tabled_all i j table l u long t =
-        let n = k.basis.size in
+        let n = length (terms_of k) in
         let all : j ≡ n = omega arith in
         let whole : length table ≤ j * n = subst (λ (m : ℕ). length table ≤ m * n) (sym all) (omega arith) in
-        sym (take_all (j * n) table whole) ∙ t ∙ ap (table_rows R B i) (take_all j (terms_of k) (omega (arith, a.size)))
+        sym (take_all (j * n) table whole) ∙ t ∙ ap (table_rows R B i) (take_all j (terms_of k) (omega arith))

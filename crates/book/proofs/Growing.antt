@@ -1,11 +1,10 @@
 -- The exponents of a set that is connected to 1 are below its number of terms. Assumes nothing.
-use Rattle.std.proofs.Common.{◌≡◌, ℕ, zero, suc, ◌+◌, ◌<◌, ◌≤◌, true, false, not, ◌&&◌, List, [], ◌∷◌, ◌++◌, length, get_or, take, replicate, sym, refl, ap, ◌∙◌, subst, ⊎_elim, append_assoc, append-nil, arith}
-use Rattle.std.proofs.lemmas.List.{length-take-le, get_or-take}
+use Rattle.std.proofs.Common.{◌≡◌, ℕ, zero, suc, ◌+◌, ◌<◌, ◌≤◌, true, false, not, ◌&&◌, List, [], ◌∷◌, ◌++◌, length, get_or, replicate, sym, refl, ap, subst, ⊎_elim, append_assoc, append-nil, arith}
 use Rattle.std.proofs.lemmas.Bool.{and_parts, both_ways}
 use Rattle.algebra.specs.Term.{Term, one, times, has}
 use Rattle.algebra.specs.Border.{multiples, grows, connected}
 use Rattle.algebra.proofs.Terms.{has_cases, has_append_cases}
-use Rattle.algebra.proofs.Borders.{first_term, from_multiples, get_or_has, term_in_variables}
+use Rattle.algebra.proofs.Borders.{first_term, from_multiples, term_in_variables}
 use Rattle.term.specs.Letters.{raised}
 use Rattle.term.proofs.Letters.{raised_times}
 
@@ -49,12 +48,8 @@ exponent_bound n k S c t h =
     omega (arith, ap (λ (ts : List Term). length ts) f.1)
 
 -- so a byte has room for one more of a variable
-pub raised_at : (n i j size : ℕ) (terms : List Term) → connected n (take size terms) ≡ true → size ≤ 32 → length terms ≡ 32 → i < 8 → j < size → raised i (get_or terms j []) ≡ times i (get_or terms j [])
-raised_at n i j size terms c few long low within =
-    let t = get_or terms j [] in
-    let S = take size terms in
-    let count : length S ≡ size = length-take-le size terms (omega arith) in
-    let h : has t S ≡ true = ap (λ (u : Term). has u S) (sym (get_or-take size terms j [] within)) ∙ get_or_has S j (omega arith) in
+pub raised_is : (n i : ℕ) (S : List Term) (t : Term) → connected n S ≡ true → length S ≤ 32 → i < 8 → has t S ≡ true → raised i t ≡ times i t
+raised_is n i S t c few low h =
     let eight = (term_in_variables n S c t h).0 in
     let room = exponent_bound n i S c t h in
     raised_times i t (omega arith) (omega arith)

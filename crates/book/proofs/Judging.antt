@@ -1,11 +1,14 @@
 -- How a chain of causes answers, and what the chains of the calls say. Assumes nothing.
-use Rattle.std.proofs.Common.{◌≡◌, ℕ, zero, suc, ◌-◌, ◌*◌, ◌<◌, ◌≤◌, Bool, true, false, cond, not, eqb, ltb, List, [], ◌∷◌, length, get_or, take, is_some, Some, None, Ok, Err, Option, sym, refl, ap, ◌∙◌, mul-le-mul, arith}
+use Rattle.std.proofs.Common.{◌≡◌, ℕ, zero, suc, ◌-◌, ◌*◌, ◌<◌, ◌≤◌, Bool, true, false, cond, not, eqb, ltb, List, [], ◌∷◌, length, get_or, take, is_some, Some, None, Ok, Err, Option, Result, IfOk, subst, sym, refl, ap, ◌∙◌, mul-le-mul, arith}
+use Rattle.std.specs.Option.{ok_or}
+use Rattle.std.specs.List.{sum_by}
+use Rattle.std.proofs.lemmas.List.Sums.{sum_by-cons}
 use Rattle.std.proofs.lemmas.Bool.{both_ways, ltb-false, eq-eqb, lt-ltb, le-ltb, not_from_true, not_from_false}
 use Rattle.algebra.specs.Term.{Term, has, place, degree, next_place, zero_past}
 use Rattle.algebra.specs.Polynomial.{Polynomial}
 use Rattle.algebra.specs.Border.{Row, border, at_place}
 use Rattle.algebra.proofs.Borders.{not_in_border, place_absent}
-use Rattle.term.specs.Search.{first_place}
+use Rattle.term.specs.Search.{first_place, found}
 use Rattle.book.specs.declared.contents.Contents.{Contents}
 use Rattle.book.specs.declared.phase.Event.{Event}
 use Rattle.book.specs.declared.phase.Event.TheVariants.{GiveRule}
@@ -59,37 +62,32 @@ off_border Closed n S e h = sym (place_absent e _ (not_in_border n S e h))
 off_border Sound n S e h = sym (place_absent e _ (not_in_border n S e h))
 off_border Clash n S e h = sym (place_absent e _ (not_in_border n S e h))
 
--- a place keeps a row where its rule was given
-kept_here : (g : Bool) (r : Row) → is_some (cond g (Some r) None) ≡ g
-kept_here true r = refl
-kept_here false r = refl
+-- a place keeps a row where it has one
+pub first_missing : (D : ℕ) (os : List (Option Row)) → first_place missing os ≡ first_place missing (kept_rows D os)
+first_missing D [] = refl
+first_missing D (None ∷ os) = refl
+first_missing D (Some r ∷ os) = ap next_place (first_missing D os)
 
-pub first_missing : (D : ℕ) (gs : List Bool) (rows : List Row) → length gs ≤ length rows → first_place not gs ≡ first_place missing (kept_rows D gs rows)
-first_missing D [] rows h = refl
-first_missing D (g ∷ gs) [] h = absurd (omega arith)
-first_missing D (g ∷ gs) (r ∷ rows) h = λ i. cond (not (sym (kept_here g (take D r)) i)) 1 (next_place (first_missing D gs rows (omega arith) i))
-
-kept_index : (D m : ℕ) (given : List Bool) (rows : List Row) (j : ℕ) → j < m → j < length rows → get_or given j false ≡ is_some (get_or (kept_rows D (take m given) rows) j None)
-kept_index D zero given rows j h l = absurd (omega arith)
-kept_index D (suc m) [] rows j h l = refl
-kept_index D (suc m) (g ∷ given) [] j h l = absurd (omega arith)
-kept_index D (suc m) (g ∷ given) (r ∷ rows) zero h l = sym (kept_here g (take D r))
-kept_index D (suc m) (g ∷ given) (r ∷ rows) (suc j) h l = kept_index D m given rows j (omega arith) (omega arith)
+kept_index : (D m : ℕ) (os : List (Option Row)) (j : ℕ) → j < m → is_some (get_or os j None) ≡ is_some (get_or (kept_rows D (take m os)) j None)
+kept_index D zero os j h = absurd (omega arith)
+kept_index D (suc m) [] j h = refl
+kept_index D (suc m) (None ∷ os) zero h = refl
+kept_index D (suc m) (Some r ∷ os) zero h = refl
+kept_index D (suc m) (o ∷ os) (suc j) h = kept_index D m os j (omega arith)
 
 -- at a place that counts from 1
-pub kept_place : (D m : ℕ) (given : List Bool) (rows : List Row) (p : ℕ) → 1 ≤ p → p ≤ m → p ≤ length rows → get_or given (p - 1) false ≡ is_some (at_place p (kept_rows D (take m given) rows) None)
-kept_place D m given rows zero one h l = absurd (omega arith)
-kept_place D m given rows (suc j) one h l = ap (λ (i : ℕ). get_or given i false) (omega arith) ∙ kept_index D m given rows j (omega arith) (omega arith)
+pub kept_place : (D m : ℕ) (os : List (Option Row)) (p : ℕ) → 1 ≤ p → p ≤ m → is_some (get_or os (p - 1) None) ≡ is_some (at_place p (kept_rows D (take m os)) None)
+kept_place D m os zero one h = absurd (omega arith)
+kept_place D m os (suc j) one h = ap (λ (i : ℕ). is_some (get_or os i None)) (omega arith) ∙ kept_index D m os j (omega arith)
 
-past_index : (D : ℕ) (gs : List Bool) (rows : List Row) (j : ℕ) → length rows ≤ j → false ≡ is_some (get_or (kept_rows D gs rows) j None)
-past_index D [] rows j h = refl
-past_index D (g ∷ gs) [] j h = refl
-past_index D (g ∷ gs) (r ∷ rows) zero h = absurd (omega arith)
-past_index D (g ∷ gs) (r ∷ rows) (suc j) h = past_index D gs rows j (omega arith)
+past_index : (D : ℕ) (os : List (Option Row)) (j : ℕ) → length os ≤ j → false ≡ is_some (get_or (kept_rows D os) j None)
+past_index D [] j h = refl
+past_index D (o ∷ os) zero h = absurd (omega arith)
+past_index D (o ∷ os) (suc j) h = past_index D os j (omega arith)
 
-pub past_place : (D : ℕ) (gs : List Bool) (rows : List Row) (p : ℕ) → length rows < p → false ≡ is_some (at_place p (kept_rows D gs rows) None)
-past_place D gs rows zero h = absurd (omega arith)
-past_place D gs rows (suc j) h = past_index D gs rows j (omega arith)
+pub past_place : (D : ℕ) (os : List (Option Row)) (p : ℕ) → length os < p → false ≡ is_some (at_place p (kept_rows D os) None)
+past_place D os zero h = absurd (omega arith)
+past_place D os (suc j) h = past_index D os j (omega arith)
 
 -- a chain that refuses goes on to refuse where more causes follow
 refuse_more : (b : Bool) (r s : Refusal) (later more : Option Refusal) → (later ≡ Some s → more ≡ Some s) → refuse b r later ≡ Some s → refuse b r more ≡ Some s
@@ -116,6 +114,14 @@ on_some n E e later r = refuse_more (not (zero_past n e)) (ExponentPastVariables
 -- the border as the book has it: empty while the book is open
 abbrev pub known_border : Contents → List Term
 known_border k = border_in k.phase k.basis.variables (terms_of k)
+
+-- a place on the border is within it
+pub border_bound : (o : Option ℕ) (r : Result ℕ Refusal) (k n : ℕ) → r ≡ ok_or o NotOnBorder → o ≡ found k → k ≤ n → IfOk r (λ p. (1 ≤ p) × (p ≤ n))
+border_bound o r k n e f l = subst (λ (x : Result ℕ Refusal). IfOk x (λ p. (1 ≤ p) × (p ≤ n))) (sym (e ∙ ap (λ (x : Option ℕ). ok_or x NotOnBorder) f)) (go k l)
+  where
+    go : (j : ℕ) → j ≤ n → IfOk (ok_or (found j) NotOnBorder) (λ p. (1 ≤ p) × (p ≤ n))
+    go zero l = tt
+    go (suc j) l = (omega arith, l)
 
 -- the calls that name a border term, once the phase allows them
 module _ (k : Contents) (event : Event) (shut : allowed Open event ≡ false) (v : Unit {0}) (in' : Ok v ≡ granted (refuse_phase (ledger k) event None) tt) (e : Term) (later : Option Refusal) where
@@ -156,6 +162,10 @@ module _ (q : ℕ) (L : Ledger) (p : Polynomial) (d i : ℕ) (is-past : i ≡ fi
     pub pairs_granted : m ≡ 0 → judge_pairs q L p d None ≡ None
     pairs_granted x =
         onward None _ (pass_at CodeOutOfRange (sym is-unfit ∙ z) (pass TooManyPairs (le-ltb 64 (length p) few) (pass_at DegreeTooHigh (sym is-high ∙ x) refl)))
+
+pub degrees_sum : (p : Polynomial) → sum_by (λ (x : ℕ × Term). degree x.1) p ≡ degrees p
+degrees_sum [] = refl
+degrees_sum (x ∷ p) = sum_by-cons (λ (y : ℕ × Term). degree y.1) x p ∙ (let e = degrees_sum p in omega arith)
 
 -- at most 24 for each pair
 degrees_low : (p : Polynomial) → first_place too_high p ≡ 0 → degrees p ≤ 24 * length p

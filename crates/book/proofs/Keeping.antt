@@ -2,32 +2,24 @@
 use Rattle.std.proofs.Common.{◌≡◌, ℕ, zero, suc, ◌+◌, ◌<◌, ◌≤◌, true, false, eqb, leb, List, [], ◌∷◌, ◌++◌, length, get_or, sym, refl, ap, subst, zero-add, arith}
 use Rattle.std.proofs.lemmas.Bool.{and_parts, and_from, leb-true, le-leb, eqb-true, eq-eqb, both_ways}
 use Rattle.algebra.specs.Term.{Term, same}
-use Rattle.algebra.specs.Border.{Row}
 use Rattle.algebra.proofs.Terms.{same_true, same_refl}
 use Rattle.row.specs.declared.lead.Lead.{Lead}
 use Rattle.row.specs.declared.lead.Lead.TheVariants.{Inside, OnBorder}
 use Rattle.book.specs.declared.contents.Contents.{Contents}
 use Rattle.book.specs.Leading.{leads_of}
-use Rattle.book.specs.Kept.{terms_of, border_of, rows_of, terms_fit, same_terms, border_in, same_lead, begins, led, led_in, complete_in, all_long, sized, coherent, kept}
-
--- the lengths of the arrays
-pub record Sized (k : Contents) : Type 0 where
-  pub terms_long : length k.basis.terms ≡ 32
-  pub border_counted : length (border_of k) ≡ k.border.size
-  pub given_long : length k.rules.given ≡ 256
-  pub rows_long : length k.rules.rows ≡ 256
+use Rattle.book.specs.Kept.{terms_of, border_of, rows_of, terms_fit, same_terms, border_in, same_lead, begins, led, led_in, complete_in, all_long, coherent, kept}
 
 pub record Facts (k : Contents) : Type 0 where
   pub some_variable : 1 ≤ k.basis.variables
   pub few_variables : k.basis.variables ≤ 8
-  pub few_terms : k.basis.size ≤ 32
-  pub small_border : k.border.size ≤ 256
+  pub few_terms : length (terms_of k) ≤ 32
+  pub small_border : length (border_of k) ≤ 256
   pub fit : terms_fit k.basis.variables (terms_of k) ≡ true
   pub is_border : border_of k ≡ border_in k.phase k.basis.variables (terms_of k)
-  pub is_led : led_in k.phase (terms_of k) (border_of k) k.basis.variables k.border.leads ≡ true
+  pub is_led : led_in k.phase (terms_of k) (border_of k) k.basis.variables k.border.leads.columns ≡ true
   pub is_complete : complete_in k.phase (terms_of k) (rows_of k) ≡ true
   pub long_rows : all_long k.rules.rows ≡ true
-  pub arrays : Sized k
+  pub rows_long : length k.rules.rows ≡ 256
 
 same_terms_true : (ts us : List Term) → same_terms ts us ≡ true → ts ≡ us
 same_terms_true [] [] h = refl
@@ -39,35 +31,17 @@ same_terms_refl : (ts : List Term) → same_terms ts ts ≡ true
 same_terms_refl [] = refl
 same_terms_refl (t ∷ ts) = and_from (same t t) _ (same_refl t) (same_terms_refl ts)
 
-sized_facts : (k : Contents) → sized k ≡ true → Sized k
-sized_facts k h =
-    let h₂ = and_parts (eqb (length k.basis.terms) 32) _ h in
-    let h₃ = and_parts (eqb (length (border_of k)) k.border.size) _ h₂.1 in
-    let h₄ = and_parts (eqb (length k.rules.given) 256) _ h₃.1 in
-    let h₅ = and_parts (eqb (length k.rules.rows) 256) _ h₄.1 in
-    record {
-      terms_long = eqb-true _ 32 h₂.0;
-      border_counted = eqb-true _ k.border.size h₃.0;
-      given_long = eqb-true _ 256 h₄.0;
-      rows_long = eqb-true _ 256 h₅.0;
-    }
-
-keep_sized : (k : Contents) → Sized k → sized k ≡ true
-keep_sized k s =
-    and_from _ _ (eq-eqb _ 32 s.terms_long)
-    (and_from _ _ (eq-eqb _ k.border.size s.border_counted) (and_from _ _ (eq-eqb _ 256 s.given_long) (and_from _ _ (eq-eqb _ 256 s.rows_long) refl)))
-
 pub facts : (k : Contents) → kept k ≡ true → Facts k
 unfolding coherent
 facts k h₁ =
     let h₂ = and_parts (leb 1 k.basis.variables) _ h₁ in
     let h₃ = and_parts (leb k.basis.variables 8) _ h₂.1 in
-    let h₄ = and_parts (leb k.basis.size 32) _ h₃.1 in
-    let h₅ = and_parts (leb k.border.size 256) _ h₄.1 in
+    let h₄ = and_parts (leb (length (terms_of k)) 32) _ h₃.1 in
+    let h₅ = and_parts (leb (length (border_of k)) 256) _ h₄.1 in
     let open_up = and_parts (coherent k) _ h₅.1 in
     let h₆ = and_parts (terms_fit k.basis.variables (terms_of k)) _ open_up.0 in
     let h₇ = and_parts (same_terms (border_of k) (border_in k.phase k.basis.variables (terms_of k))) _ h₆.1 in
-    let h₈ = and_parts (led_in k.phase (terms_of k) (border_of k) k.basis.variables k.border.leads) _ h₇.1 in
+    let h₈ = and_parts (led_in k.phase (terms_of k) (border_of k) k.basis.variables k.border.leads.columns) _ h₇.1 in
     let h₉ = and_parts (complete_in k.phase (terms_of k) (rows_of k)) _ h₈.1 in
     let h₁₀ = and_parts (all_long k.rules.rows) _ h₉.1 in
     record {
@@ -80,7 +54,7 @@ facts k h₁ =
       is_led = h₈.0;
       is_complete = h₉.0;
       long_rows = h₁₀.0;
-      arrays = sized_facts k (and_parts (sized k) _ h₁₀.1).0;
+      rows_long = eqb-true _ 256 (and_parts (eqb (length k.rules.rows) 256) _ h₁₀.1).0;
     }
 
 pub keep : (k : Contents) → Facts k → kept k ≡ true
@@ -93,7 +67,7 @@ keep k f =
     (and_from _ _
     (and_from _ _ f.fit
     (and_from _ _ (subst (λ (ts : List Term). same_terms ts (border_in k.phase k.basis.variables (terms_of k)) ≡ true) (sym f.is_border) (same_terms_refl (border_in k.phase k.basis.variables (terms_of k))))
-    (and_from _ _ f.is_led (and_from _ _ f.is_complete (and_from _ _ f.long_rows (and_from _ _ (keep_sized k f.arrays) refl))))))
+    (and_from _ _ f.is_led (and_from _ _ f.is_complete (and_from _ _ f.long_rows (and_from _ _ (eq-eqb _ 256 f.rows_long) refl))))))
     refl))))
 
 same_lead_true : (l m : Lead) → same_lead l m ≡ true → l ≡ m
@@ -136,8 +110,3 @@ pub column : (S E : List Term) (n : ℕ) (columns : List (List Lead)) → led S 
 column S E n columns h i l =
     let r = led_from S E 0 n columns h i l in
     (r.0, subst (λ (j : ℕ). get_or columns j [] ≡ leads_of S E j S ++ r.0) (zero-add i) r.1)
-
-pub long_row : (rs : List Row) (k : ℕ) → all_long rs ≡ true → k < length rs → length (get_or rs k []) ≡ 32
-long_row [] k h l = absurd (omega arith)
-long_row (r ∷ rs) zero h l = eqb-true _ 32 (and_parts _ _ h).0
-long_row (r ∷ rs) (suc k) h l = long_row rs k (and_parts (eqb (length r) 32) _ h).1 (omega arith)

@@ -1,5 +1,5 @@
 -- A border that is laid product by product, and its leads. Assumes nothing.
-use Rattle.std.proofs.Common.{◌≡◌, ℕ, zero, suc, ◌+◌, ◌-◌, ◌<◌, ◌≤◌, Bool, true, false, cond, List, [], ◌∷◌, ◌++◌, length, get_or, take, drop, set, sym, refl, ap, ◌∙◌, ⊎_elim, append_assoc, append-nil, add-one, arith}
+use Rattle.std.proofs.Common.{◌≡◌, ℕ, zero, suc, ◌+◌, ◌-◌, ◌<◌, ◌≤◌, Bool, true, false, cond, List, [], ◌∷◌, ◌++◌, length, get_or, take, drop, set, Some, None, Option, unwrap_or, sym, refl, ap, ◌∙◌, ⊎_elim, append_assoc, append-nil, add-one, arith}
 use Rattle.std.proofs.lemmas.Bool.{cases_Bool, cond-true, cond-false, and_from, cases_eq, eq-eqb, ne_eqb, not_from_true, not_from_false, both_ways}
 use Rattle.std.proofs.lemmas.List.{at_drop_more, at_drop_all, take_more_set, take_all, take-append-drop, map_more, get_or-set_same, get_or-set_other}
 use Rattle.algebra.specs.Term.{Term, times, has, place}
@@ -11,7 +11,8 @@ use Rattle.book.specs.Laying.{extended}
 use Rattle.book.specs.Leading.{lead, leads_of}
 use Rattle.book.specs.Kept.{begins, led}
 use Rattle.book.proofs.Keeping.{begins_append}
-use Rattle.book.proofs.Searching.{placed_has}
+use Rattle.term.specs.Search.{found}
+use Rattle.book.proofs.Searching.{placed_has, found_some, found_none}
 
 -- where its place is 0 a term is not there, and elsewhere it is
 pub absent : (t : Term) (ts : List Term) (k : ℕ) → k ≡ place t ts → k ≡ 0 → has t ts ≡ false
@@ -20,11 +21,16 @@ absent t ts k e z = sym (placed_has t ts) ∙ not_from_true _ (eq-eqb (place t t
 pub present : (t : Term) (ts : List Term) (k : ℕ) → k ≡ place t ts → (k ≡ 0 → ⊥) → has t ts ≡ true
 present t ts k e z = sym (placed_has t ts) ∙ not_from_false _ (ne_eqb (place t ts) 0 (λ p. z (e ∙ p)))
 
-pub lead_inside : (S E : List Term) (e : Term) (k : ℕ) → k ≡ place e S → (k ≡ 0 → ⊥) → Inside k ≡ lead S E e
-lead_inside S E e k p ne = ap Inside p ∙ sym (cond-true _ _ _ (present e S k p ne))
+pub lead_inside : (S E : List Term) (e : Term) (k : ℕ) → found (place e S) ≡ Some k → Inside k ≡ lead S E e
+lead_inside S E e k f = let p = found_some (place e S) k f in ap Inside p.0 ∙ sym (cond-true _ _ _ (present e S k p.0 p.1))
 
-pub lead_outside : (S E : List Term) (e : Term) (k m : ℕ) → k ≡ place e S → k ≡ 0 → m ≡ place e E → OnBorder m ≡ lead S E e
-lead_outside S E e k m p z q = ap OnBorder q ∙ sym (cond-false _ _ _ (absent e S k p z))
+pub lead_outside : (S E : List Term) (e : Term) (o : Option ℕ) → found (place e S) ≡ None → o ≡ found (place e E) → OnBorder (unwrap_or o 0) ≡ lead S E e
+lead_outside S E e o f is =
+    ap OnBorder (ap (λ (x : Option ℕ). unwrap_or x 0) is ∙ found_or (place e E)) ∙ sym (cond-false _ _ _ (absent e S (place e S) refl (found_none (place e S) f)))
+  where
+    found_or : (k : ℕ) → unwrap_or (found k) 0 ≡ k
+    found_or zero = refl
+    found_or (suc k) = refl
 
 -- one product
 pub one_known : (S E : List Term) (e : Term) → has e (S ++ E) ≡ true → E ≡ extended S E (e ∷ [])

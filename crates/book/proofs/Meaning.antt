@@ -17,6 +17,7 @@ use Rattle.algebra.proofs.Accounts.{forms_account}
 use Rattle.algebra.proofs.Basis.{equal_forms}
 use Rattle.algebra.proofs.Clashes.{first_clash_is, no_clash, clash_dependence, walks_account_always, border_basis_theorem, normal_form_theorem}
 use Rattle.term.specs.Search.{first_place}
+use Rattle.book.proofs.Searching.{next_zero}
 use Rattle.book.specs.Judge.{past_variables, degrees}
 use Rattle.book.specs.Effects.{written, clash_row, clash_entries, clash_term, verdict}
 use Rattle.book.specs.Promise.{Accounted, VerdictMeans, FormMeans, Accounts}
@@ -25,10 +26,6 @@ pub take_written : (es slots : List Entry) → take (length es) (written es slot
 take_written es slots = take_at es (drop (length es) slots) (length es) refl
 
 -- every pair that passes is in the variables
-next_zero : (k : ℕ) → next_place k ≡ 0 → k ≡ 0
-next_zero zero e = refl
-next_zero (suc k) e = absurd (omega arith)
-
 pub over_from : (n : ℕ) (p : Polynomial) → first_place (past_variables n) p ≡ 0 → Over n p
 over_from n [] h = tt
 over_from n (x ∷ p) h = go (in_variables n x.1) refl h (over_from n p)

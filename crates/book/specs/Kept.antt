@@ -1,5 +1,6 @@
 -- What the stored contents of a book stand for, and what they keep. Assumes nothing.
-use Rattle.std.specs.Prelude.{ℕ, zero, suc, Bool, true, false, cond, ◌&&◌, List, [], ◌∷◌, length, take, Some, None, Option, ◌==◌, nat_le, slice_index_or}
+use Rattle.std.specs.Prelude.{ℕ, zero, suc, Bool, true, false, ◌&&◌, List, [], ◌∷◌, length, take, Some, None, Option, ◌==◌, nat_le, slice_index_or}
+use Rattle.std.specs.Option.{option_map}
 use Rattle.algebra.specs.Term.{Term, same}
 use Rattle.algebra.specs.Border.{Row, connected, border}
 use Rattle.row.specs.declared.lead.Lead.{Lead}
@@ -13,19 +14,18 @@ use Rattle.book.specs.Ledger.{Ledger}
 use Rattle.book.specs.Leading.{leads_of}
 
 abbrev pub terms_of : Contents → List Term
-terms_of k = take k.basis.size k.basis.terms
+terms_of k = k.basis.terms
 
 abbrev pub border_of : Contents → List Term
-border_of k = take k.border.size k.border.terms
+border_of k = k.border.terms
 
--- a row of the first D codes for each place with a rule
-abbrev pub kept_rows : ℕ → List Bool → List Row → List (Option Row)
-kept_rows D [] rs = []
-kept_rows D (g ∷ gs) [] = []
-kept_rows D (g ∷ gs) (r ∷ rs) = cond g (Some (take D r)) None ∷ kept_rows D gs rs
+-- the first D codes of each row
+abbrev pub kept_rows : ℕ → List (Option Row) → List (Option Row)
+kept_rows D [] = []
+kept_rows D (o ∷ os) = option_map (take D) o ∷ kept_rows D os
 
 abbrev pub rows_of : Contents → List (Option Row)
-rows_of k = kept_rows k.basis.size (take k.border.size k.rules.given) k.rules.rows
+rows_of k = kept_rows (length (terms_of k)) (take (length (border_of k)) k.rules.rows)
 
 -- the ledger that the contents stand for
 abbrev pub ledger : Contents → Ledger
@@ -77,30 +77,26 @@ complete_in Closed S rows = nat_le 1 (length S)
 complete_in Sound S rows = nat_le 1 (length S) && first_place missing rows == 0
 complete_in Clash S rows = nat_le 1 (length S)
 
-abbrev pub all_long : List Row → Bool
+-- every row has 32 codes
+abbrev pub all_long : List (Option Row) → Bool
 all_long [] = true
-all_long (r ∷ rs) = length r == 32 && all_long rs
+all_long (None ∷ os) = all_long os
+all_long (Some r ∷ os) = length r == 32 && all_long os
 
 abbrev pub all_true : List Bool → Bool
 all_true [] = true
 all_true (b ∷ bs) = b && all_true bs
-
--- the arrays are as long as they are declared, and the border's size is how many terms it counts
-abbrev pub sized : Contents → Bool
-sized k =
-    all_true
-    ((length k.basis.terms == 32) ∷ (length (border_of k) == k.border.size) ∷ (length k.rules.given == 256) ∷ (length k.rules.rows == 256) ∷ [])
 
 -- what the contents keep beside their bounds; proofs go by the facts, and seldom open it
 unfoldable pub coherent : Contents → Bool
 coherent k =
     all_true
     (terms_fit k.basis.variables (terms_of k) ∷ same_terms (border_of k) (border_in k.phase k.basis.variables (terms_of k))
-    ∷ led_in k.phase (terms_of k) (border_of k) k.basis.variables k.border.leads ∷ complete_in k.phase (terms_of k) (rows_of k) ∷ all_long k.rules.rows ∷ sized k ∷ [])
+    ∷ led_in k.phase (terms_of k) (border_of k) k.basis.variables k.border.leads.columns ∷ complete_in k.phase (terms_of k) (rows_of k) ∷ all_long k.rules.rows ∷ (length k.rules.rows == 256) ∷ [])
 
 abbrev pub kept : Contents → Bool
 kept k =
-    all_true (nat_le 1 k.basis.variables ∷ nat_le k.basis.variables 8 ∷ nat_le k.basis.size 32 ∷ nat_le k.border.size 256 ∷ coherent k ∷ [])
+    all_true (nat_le 1 k.basis.variables ∷ nat_le k.basis.variables 8 ∷ nat_le (length (terms_of k)) 32 ∷ nat_le (length (border_of k)) 256 ∷ coherent k ∷ [])
 
 -- the border is laid
 abbrev pub is_closed : Phase → Bool

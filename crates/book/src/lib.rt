@@ -8,7 +8,8 @@ mod contents;
 mod phase;
 mod refusal;
 mod rules;
-mod tests;
+mod search;
+mod terms;
 mod verdict;
 
 pub use book::Book;

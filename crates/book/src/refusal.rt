@@ -23,6 +23,7 @@ pub enum Refusal {
 }
 
 impl Refusal {
+    // Two methods and no `From`: a refusal has two numbers, and `u16::from` would not say which.
     pub fn number(self) -> u16
         ensures { result ≡ number_of self }
     {
@@ -46,7 +47,7 @@ impl Refusal {
         }
     }
 
-    // The place that stands beside the number, or 0.
+    // The place that stands beside the number. 0 and no Option, since 0 is what is printed where there is none.
     pub fn beside(self) -> usize
         ensures { result ≡ beside_of self }
     {

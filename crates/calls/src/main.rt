@@ -4,7 +4,7 @@
 mod show;
 mod worked;
 
-use crate::show::push_line;
+use crate::show::Shown;
 use field::{Field, Prime};
 use nine::Nine;
 use run::{Line, replay};
@@ -18,11 +18,9 @@ fn report<F: Field + Drop>(
     mut lines: Vec<Line>,
 ) -> Result<String, AllocError> {
     replay(field, &mut lines);
-    let mut text = String::new(heap);
-    text.push_str(name)?;
-    text.push_str("\n")?;
-    for line in lines.iter() {
-        push_line(&mut text, heap, line)?;
+    let mut text = format!(in heap; "{name}\n")?;
+    for line in &lines {
+        writeln!(text, "{}", Shown(line))?;
     }
     Ok(text)
 }

@@ -1,8 +1,9 @@
-use algebra::{Entry, Term};
+use algebra::Entry;
 use book::{Refusal, Verdict};
 use run::{Answer, Call, Line};
-use std::alloc::{AllocError, Global};
+use std::fmt;
 
+// A function and no Display: `Call` is another crate's.
 fn call_name(call: &Call) -> &'static str {
     match call {
         Call::Lay(_) => "lay",
@@ -17,89 +18,104 @@ fn call_name(call: &Call) -> &'static str {
     }
 }
 
-fn verdict_text(heap: Global, verdict: Verdict) -> Result<String, AllocError> {
-    match verdict {
-        Verdict::Consistent => format!(in heap; "sound"),
-        Verdict::Clashes {
-            term,
-            a,
-            b,
-            entries,
-        } => format!(in heap; "clash {term} {a} {b} {entries}"),
-    }
-}
+#[derive(Clone, Copy)]
+struct Checked(Verdict);
 
-fn answer_text(heap: Global, answer: Answer) -> Result<String, AllocError> {
-    match answer {
-        Answer::Done => format!(in heap; "0"),
-        Answer::Border(size) => format!(in heap; "{size}"),
-        Answer::Checked(verdict) => verdict_text(heap, verdict),
-        Answer::Formed(true) => format!(in heap; "yes"),
-        Answer::Formed(false) => format!(in heap; "no"),
-        Answer::Counted(count, zero) => format!(in heap; "{count} {zero}"),
-    }
-}
-
-fn result_text(
-    heap: Global,
-    answer: Option<Result<Answer, Refusal>>,
-) -> Result<String, AllocError> {
-    match answer {
-        Some(Ok(answer)) => answer_text(heap, answer),
-        Some(Err(refusal)) => {
-            let number = refusal.number();
-            let beside = refusal.beside();
-            format!(in heap; "refused {number} {beside}")
+impl fmt::Display for Checked {
+    fn fmt<W: fmt::Write>(&self, f: &mut fmt::Formatter<W>) -> fmt::Result {
+        match self.0 {
+            Verdict::Consistent => write!(f, "sound"),
+            Verdict::Clashes {
+                term,
+                a,
+                b,
+                entries,
+            } => write!(f, "clash {term} {a} {b} {entries}"),
         }
-        None => format!(in heap; "not run"),
     }
 }
 
-fn push_row(text: &mut String, heap: Global, row: &[u16]) -> Result<(), AllocError> {
-    text.push_str(", row")?;
-    for code in row.iter() {
-        let code = *code;
-        text.push_str(format!(in heap; " {code}")?.as_str())?;
+#[derive(Clone, Copy)]
+struct Granted(Answer);
+
+impl fmt::Display for Granted {
+    fn fmt<W: fmt::Write>(&self, f: &mut fmt::Formatter<W>) -> fmt::Result {
+        match self.0 {
+            Answer::Done => write!(f, "0"),
+            Answer::Border(size) => write!(f, "{size}"),
+            Answer::Checked(verdict) => write!(f, "{}", Checked(verdict)),
+            Answer::Formed(true) => write!(f, "yes"),
+            Answer::Formed(false) => write!(f, "no"),
+            Answer::Counted(count, zero) => write!(f, "{count} {zero}"),
+        }
     }
-    Ok(())
 }
 
-fn push_entry(text: &mut String, heap: Global, entry: &Entry) -> Result<(), AllocError> {
-    let code = entry.code;
-    let place = entry.place;
-    text.push_str(format!(in heap; " {code}*")?.as_str())?;
-    for exponent in entry.multiplier.iter() {
-        let exponent = *exponent;
-        text.push_str(format!(in heap; "{exponent}")?.as_str())?;
+#[derive(Clone, Copy)]
+struct Outcome(Option<Result<Answer, Refusal>>);
+
+impl fmt::Display for Outcome {
+    fn fmt<W: fmt::Write>(&self, f: &mut fmt::Formatter<W>) -> fmt::Result {
+        match self.0 {
+            Some(Ok(answer)) => write!(f, "{}", Granted(answer)),
+            Some(Err(refusal)) => write!(f, "refused {} {}", refusal.number(), refusal.beside()),
+            None => write!(f, "not run"),
+        }
     }
-    text.push_str(format!(in heap; "@{place}")?.as_str())
 }
 
-fn push_entries(text: &mut String, heap: Global, entries: &[Entry]) -> Result<(), AllocError> {
-    text.push_str(", entries")?;
-    for entry in entries.iter() {
-        push_entry(text, heap, entry)?;
+// An element of a slice that a call left.
+#[derive(Clone, Copy)]
+struct Element<T>(T);
+
+impl fmt::Display for Element<u16> {
+    fn fmt<W: fmt::Write>(&self, f: &mut fmt::Formatter<W>) -> fmt::Result {
+        write!(f, "{}", self.0)
     }
-    Ok(())
+}
+
+impl fmt::Display for Element<Entry> {
+    fn fmt<W: fmt::Write>(&self, f: &mut fmt::Formatter<W>) -> fmt::Result {
+        let entry = self.0;
+        write!(f, "{}*", entry.code)?;
+        for exponent in &entry.multiplier {
+            write!(f, "{exponent}")?;
+        }
+        write!(f, "@{}", entry.place)
+    }
+}
+
+// A word, and each element behind a space.
+#[derive(Clone, Copy)]
+struct Listed<'a, T>(&'static str, &'a [T]);
+
+impl<T: Copy> fmt::Display for Listed<'_, T>
+where
+    Element<T>: fmt::Display,
+{
+    fn fmt<W: fmt::Write>(&self, f: &mut fmt::Formatter<W>) -> fmt::Result {
+        write!(f, ", {}", self.0)?;
+        for element in self.1 {
+            write!(f, " {}", Element(*element))?;
+        }
+        Ok(())
+    }
 }
 
 // A call's name, its answer, and its slices as the call left them.
-pub fn push_line(text: &mut String, heap: Global, line: &Line) -> Result<(), AllocError> {
-    text.push_str(call_name(&line.call))?;
-    text.push_str(": ")?;
-    text.push_str(result_text(heap, line.answer)?.as_str())?;
-    match &line.call {
-        Call::Check(row, entries) => {
-            push_row(text, heap, row)?;
-            push_entries(text, heap, entries)?;
+#[derive(Clone, Copy)]
+pub struct Shown<'a>(pub &'a Line);
+
+impl fmt::Display for Shown<'_> {
+    fn fmt<W: fmt::Write>(&self, f: &mut fmt::Formatter<W>) -> fmt::Result {
+        let Line { call, answer } = self.0;
+        write!(f, "{}: {}", call_name(call), Outcome(*answer))?;
+        match call {
+            Call::Check(row, entries) | Call::Cofactors(_, row, entries) => {
+                write!(f, "{}{}", Listed("row", row), Listed("entries", entries))
+            }
+            Call::Form(_, row) | Call::Table(_, row) => write!(f, "{}", Listed("row", row)),
+            _ => Ok(()),
         }
-        Call::Form(_, row) => push_row(text, heap, row)?,
-        Call::Cofactors(_, row, entries) => {
-            push_row(text, heap, row)?;
-            push_entries(text, heap, entries)?;
-        }
-        Call::Table(_, rows) => push_row(text, heap, rows)?,
-        _ => (),
     }
-    text.push_str("\n")
 }

@@ -21,12 +21,7 @@ pub trait Field {
     fn inverse(&self, a: u16) -> Option<u16>
         ensures { result ≡ (meaning self.now).inverse a }
     {
-        for b in 0..self.order() {
-            if self.product(a, b) == 1 {
-                return Some(b);
-            }
-        }
-        None
+        (0..self.order()).find(|b| self.product(a, *b) == 1)
     }
 
     ghost lawful: { (f : Self) → Lawful (meaning f) };

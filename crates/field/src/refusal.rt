@@ -8,6 +8,7 @@ pub enum Refusal {
 }
 
 impl Refusal {
+    // A method as a book's refusals have: the numbers are one list over the library, and those of a book are 1 to 16.
     pub fn number(self) -> u16
         ensures { result ≡ number_of self }
     {

@@ -106,20 +106,18 @@ mod tests {
 
     // The negative and the inverse of `a` are the codes at which the sum is 0 and the product 1, and each is met once.
     fn row<F: Field, E: Expected>(rt: &impl Abort, f: &F, e: &E, a: u16) {
-        let mut negatives: u16 = 0;
-        let mut inverses: u16 = 0;
         for b in 0..e.order() {
             assert_eq!(rt; f.sum(a, b), e.sum(a, b));
             assert_eq!(rt; f.product(a, b), e.product(a, b));
             if e.sum(a, b) == 0 {
-                negatives = negatives.wrapping_add(1);
                 assert_eq!(rt; f.negative(a), b);
             }
             if e.product(a, b) == 1 {
-                inverses = inverses.wrapping_add(1);
                 assert_eq!(rt; f.inverse(a), Some(b));
             }
         }
+        let negatives = (0..e.order()).filter(|b| e.sum(a, *b) == 0).count();
+        let inverses = (0..e.order()).filter(|b| e.product(a, *b) == 1).count();
         assert_eq!(rt; negatives, 1);
         assert_eq!(rt; inverses, if a == 0 { 0 } else { 1 });
     }
@@ -150,10 +148,8 @@ mod tests {
     #[test]
     fn primes_agree(rt: HostRuntime) -> Result<(), Fail> {
         for p in [2, 3, 5, 7, 11, 13, 17, 19, 23, 29, 31] {
-            match Prime::new(p) {
-                Ok(f) => agrees(&rt, &f, &Counted(p)),
-                Err(_) => return Err(Fail::new("no such prime field")),
-            }
+            let f = Prime::new(p).map_err(|_| Fail::new("no such prime field"))?;
+            agrees(&rt, &f, &Counted(p));
         }
         Ok(())
     }
@@ -161,10 +157,8 @@ mod tests {
     #[test]
     fn binary_fields_agree(rt: HostRuntime) -> Result<(), Fail> {
         for (k, order, reduction) in [(2, 4, 0b111), (3, 8, 0b1011), (4, 16, 0b10011)] {
-            match Binary::new(k) {
-                Ok(f) => agrees(&rt, &f, &Polynomials { order, reduction }),
-                Err(_) => return Err(Fail::new("no such binary field")),
-            }
+            let f = Binary::new(k).map_err(|_| Fail::new("no such binary field"))?;
+            agrees(&rt, &f, &Polynomials { order, reduction });
         }
         Ok(())
     }
@@ -175,7 +169,7 @@ mod tests {
     }
 
     fn refused(rt: &impl Abort, refusal: Refusal) {
-        assert!(rt; matches!(refusal, Refusal::UnknownField));
+        assert_eq!(rt; refusal, Refusal::UnknownField);
         assert_eq!(rt; refusal.number(), 17);
     }
 

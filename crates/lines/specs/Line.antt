@@ -1,7 +1,7 @@
 -- The lines of a report and the bytes of each. Assumes nothing.
 use Rattle.std.specs.Prelude.{ℕ, ◌+◌, ◌*◌, Bool, true, false, List, [], ◌∷◌, ◌++◌, length, codes, decimal}
 use Rattle.sheet.specs.declared.fault.Layer.{Layer}
-use Rattle.sheet.specs.declared.fault.Layer.TheVariants as layer
+use Rattle.sheet.specs.Fault.{layer_name}
 use Rattle.lines.specs.declared.fault.Fault.{Fault}
 use Rattle.lines.specs.declared.line.Line.{Line}
 use Rattle.lines.specs.declared.line.Line.TheVariants as line
@@ -36,9 +36,7 @@ member_word true = codes " member"
 member_word false = codes " other"
 
 abbrev pub name : Layer → List ℕ
-name layer.Number = codes "number"
-name layer.Record = codes "record"
-name layer.Book = codes "book"
+name l = layer_name l
 
 -- the bytes of a line
 abbrev pub text : Said → List ℕ

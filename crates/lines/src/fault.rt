@@ -28,6 +28,7 @@ impl From<SheetFault> for Fault {
 }
 
 impl Fault {
+    // A method as those of the refusals and faults that it holds.
     pub fn number(self) -> u16
         ensures { result ≡ number_of self }
     {
@@ -49,7 +50,7 @@ impl Fault {
         }
     }
 
-    // The record, from 1, or 0 for the heading and the whole sheet.
+    // The record, from 1, or 0 for the heading and the whole sheet, since 0 is what is printed.
     pub fn record(self) -> usize
         ensures { result ≡ record_of self }
     {

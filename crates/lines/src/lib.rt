@@ -3,6 +3,7 @@
 
 mod fault;
 mod line;
+mod sink;
 mod text;
 
 pub use fault::Fault;

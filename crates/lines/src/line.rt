@@ -1,10 +1,11 @@
-ghost use Rattle.std.specs.Prelude.{◌≡◌, ◌+◌, ◌*◌, ◌≤◌, true, ◌++◌, length, is_ok};
-ghost use Rattle.sheet_write.specs.Writing.{answer, held, with_room, pasted};
-ghost use Rattle.lines.specs.Line.{said, text, name, member_word, width, sound as sound_line, fault as fault_line, form as form_line, clash as clash_line};
+ghost use Rattle.std.specs.Prelude.{◌≡◌, ◌+◌, ◌-◌, ◌*◌, ◌^◌, ◌≤◌, min, true, length, is_ok};
+ghost use Rattle.sheet_write.specs.Writing.{answer, held, with_room};
+ghost use Rattle.lines.specs.Line.{said, text, member_word, width, fault as fault_line, form as form_line, clash as clash_line};
 
 use crate::fault::Fault;
-use crate::text::{codes_size, digits, put, put_codes, put_spaced, put_three, three_size};
-use sheet::{Layer, RecordFault, SheetFault};
+use crate::sink::{Count, Front, Sink};
+use crate::text::{say_codes, say_spaced, say_three};
+use sheet::{RecordFault, SheetFault};
 
 // A line of a report: what a check said, the form of a question, or the fault that ended the run.
 #[derive(Clone, Copy)]
@@ -23,118 +24,70 @@ pub enum Line<'a> {
     Fault(Fault),
 }
 
-fn layer_name(layer: Layer) -> &'static [u8]
-    ensures { result.now ≡ name layer }
-{
-    match layer {
-        Layer::Number => b"number",
-        Layer::Record => b"record",
-        Layer::Book => b"book",
-    }
-}
-
 fn member_word(member: bool) -> &'static [u8]
     ensures { result.now ≡ member_word member }
 {
     if member { b" member" } else { b" other" }
 }
 
-fn put_fault(out: &mut [u8], fault: Fault) -> usize
-    requires { length (text (fault_line fault)) ≤ length out.old }
-    ensures value { result ≡ length (text (fault_line fault)) }
-    ensures after { out.new ≡ pasted 0 (text (fault_line fault)) out.old }
+fn say_fault<S: Sink>(sink: &mut S, fault: Fault)
+    requires { S.fits sink.old (length (text (fault_line fault))) }
+    ensures bytes { S.took sink.old (text (fault_line fault)) sink.new }
+    ensures few { length (text (fault_line fault)) ≤ 80 }
 {
-    let layer = put(out, 0, b"fault ");
-    let numbers = put(out, layer, layer_name(fault.layer()));
-    put_three(
-        out,
-        numbers,
-        fault.number() as usize,
-        fault.byte(),
-        fault.record(),
-    )
+    sink.put(b"fault ");
+    sink.put(fault.layer().name().as_bytes());
+    say_three(sink, fault.number() as usize, fault.byte(), fault.record())
 }
 
-fn put_form(out: &mut [u8], codes: &[u16], member: bool, count: usize) -> usize
-    requires { length (text (form_line codes.now member count)) ≤ length out.old }
-    ensures value { result ≡ length (text (form_line codes.now member count)) }
-    ensures after { out.new ≡ pasted 0 (text (form_line codes.now member count)) out.old }
+fn say_form<S: Sink>(sink: &mut S, codes: &[u16], member: bool, count: usize)
+    requires { S.fits sink.old (length (text (form_line codes.now member count))) }
+    ensures bytes { S.took sink.old (text (form_line codes.now member count)) sink.new }
+    ensures few { length (text (form_line codes.now member count)) ≤ 80 + 21 * length codes.now }
 {
-    let first = put(out, 0, b"form");
-    let word = put_codes(out, first, codes);
-    let number = put(out, word, member_word(member));
-    let end = put_spaced(out, number, count);
-    put(out, end, b"\n")
+    sink.put(b"form");
+    say_codes(sink, codes);
+    sink.put(member_word(member));
+    say_spaced(sink, count);
+    sink.put(b"\n")
 }
 
-fn put_sound(out: &mut [u8]) -> usize
-    requires { length (text sound_line) ≤ length out.old }
-    ensures value { result ≡ length (text sound_line) }
-    ensures after { out.new ≡ pasted 0 (text sound_line) out.old }
+fn say_clash<S: Sink>(sink: &mut S, term: usize, a: usize, b: usize)
+    requires { S.fits sink.old (length (text (clash_line term a b))) }
+    ensures bytes { S.took sink.old (text (clash_line term a b)) sink.new }
+    ensures few { length (text (clash_line term a b)) ≤ 80 }
 {
-    put(out, 0, b"check sound\n")
-}
-
-fn put_clash(out: &mut [u8], term: usize, a: usize, b: usize) -> usize
-    requires { length (text (clash_line term a b)) ≤ length out.old }
-    ensures value { result ≡ length (text (clash_line term a b)) }
-    ensures after { out.new ≡ pasted 0 (text (clash_line term a b)) out.old }
-{
-    let numbers = put(out, 0, b"check clash");
-    put_three(out, numbers, term, a, b)
-}
-
-fn fault_size(fault: Fault) -> u128
-    ensures value { result ≡ length (text (fault_line fault)) }
-    ensures few { result ≤ 80 }
-{
-    let name = layer_name(fault.layer());
-    let numbers = three_size(fault.number() as usize, fault.byte(), fault.record());
-    6 + name.len() as u128 + numbers
-}
-
-fn form_size(codes: &[u16], member: bool, count: usize) -> u128
-    ensures value { result ≡ length (text (form_line codes.now member count)) }
-    ensures few { result ≤ 80 + 21 * length codes.now }
-{
-    let word = member_word(member);
-    4 + codes_size(codes) + word.len() as u128 + digits(count) as u128 + 2
+    sink.put(b"check clash");
+    say_three(sink, term, a, b)
 }
 
 impl Line<'_> {
-    // How many bytes the line takes.
-    fn size(self) -> u128
-        ensures value { result ≡ length (text (said self.entry)) }
-        ensures few { result ≤ width (said self.entry) }
+    // Puts the bytes of the line into a sink that has room for them.
+    fn say<S: Sink>(self, sink: &mut S)
+        requires { S.fits sink.old (length (text (said self))) }
+        ensures bytes { S.took sink.old (text (said self.entry)) sink.new }
+        ensures few { length (text (said self.entry)) ≤ width (said self.entry) }
     {
         match self {
-            Line::Sound => 12,
-            Line::Clash { term, a, b } => 11 + three_size(term, a, b),
+            Line::Sound => sink.put(b"check sound\n"),
+            Line::Clash { term, a, b } => say_clash(sink, term, a, b),
             Line::Form {
                 codes,
                 member,
                 count,
-            } => form_size(codes, member, count),
-            Line::Fault(fault) => fault_size(fault),
+            } => say_form(sink, codes, member, count),
+            Line::Fault(fault) => say_fault(sink, fault),
         }
     }
 
-    // Puts the line at the front of an output that has room for it.
-    fn put(self, out: &mut [u8]) -> usize
-        requires { length (text (said self)) ≤ length out.old }
-        ensures value { result ≡ length (text (said self.entry)) }
-        ensures after { out.new ≡ pasted 0 (text (said self.entry)) out.old }
+    // How many bytes the line takes.
+    fn size(self) -> u128
+        ensures value { result ≡ min (length (text (said self.entry))) (2 ^ 128 - 1) }
+        ensures few { length (text (said self.entry)) ≤ width (said self.entry) }
     {
-        match self {
-            Line::Sound => put_sound(out),
-            Line::Clash { term, a, b } => put_clash(out, term, a, b),
-            Line::Form {
-                codes,
-                member,
-                count,
-            } => put_form(out, codes, member, count),
-            Line::Fault(fault) => put_fault(out, fault),
-        }
+        let mut count = Count(0);
+        self.say(&mut count);
+        count.0
     }
 
     // Writes the line at the front of the output, and answers how many bytes it takes; where it has no room, it is refused with 24 and nothing is written.
@@ -144,8 +97,10 @@ impl Line<'_> {
         ensures room { width (said self.entry) ≤ length out.old → is_ok result ≡ true }
     {
         if self.size() > out.len() as u128 {
-            return Err(SheetFault::Record(RecordFault::ShortOutput));
+            return Err(RecordFault::ShortOutput.into());
         }
-        Ok(self.put(out))
+        let mut front = Front { out, at: 0 };
+        self.say(&mut front);
+        Ok(front.at)
     }
 }

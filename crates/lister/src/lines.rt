@@ -1,120 +1,126 @@
-ghost use Rattle.std.specs.Prelude.{◌≡◌, ◌++◌, string_bytes, codes, decimal, OnOk};
+ghost use Rattle.std.specs.Prelude.{◌++◌, Some, codes, decimal};
 
-use sheet::{Layer, Numbers, Placed, Record, SheetFault};
-use std::alloc::{AllocError, Global};
+use sheet::{Numbers, Placed, Record, SheetFault};
+use std::fmt;
 
-fn push_power(
-    text: &mut String,
-    heap: Global,
+// A number behind a space.
+#[derive(Clone, Copy)]
+struct Spaced(u16);
+
+impl fmt::Display for Spaced {
+    ghost output = { λ s. Some (codes " " ++ decimal s.0) };
+
+    fn fmt<W: fmt::Write>(&self, f: &mut fmt::Formatter<W>) -> fmt::Result {
+        write!(f, " {}", self.0)
+    }
+}
+
+// A variable to a power above 0.
+#[derive(Clone, Copy)]
+struct Power {
     variable: u16,
     exponent: u16,
-) -> Result<(), AllocError> {
-    let power = if exponent == 1 {
-        format!(in heap; "x{variable}")?
-    } else {
-        format!(in heap; "x{variable}^{exponent}")?
-    };
-    text.push_str(power.as_str())
 }
 
-// The next `n` numbers as a product of powers.
-fn push_term(
-    text: &mut String,
-    heap: Global,
+impl fmt::Display for Power {
+    fn fmt<W: fmt::Write>(&self, f: &mut fmt::Formatter<W>) -> fmt::Result {
+        let Power { variable, exponent } = *self;
+        if exponent == 1 {
+            write!(f, "x{variable}")
+        } else {
+            write!(f, "x{variable}^{exponent}")
+        }
+    }
+}
+
+// The first `n` of the numbers as a product of powers.
+#[derive(Clone, Copy)]
+struct Term<'a> {
     n: u16,
-    numbers: &mut Numbers<'_>,
-) -> Result<(), AllocError> {
-    let mut powers = false;
-    for k in 0..n {
-        let exponent = numbers.number().unwrap_or(0);
-        if exponent > 0 {
-            if powers {
-                text.push_str("*")?;
+    numbers: Numbers<'a>,
+}
+
+impl<'a> Term<'a> {
+    // The next `n` numbers, which are then taken.
+    fn next(n: u16, numbers: &mut Numbers<'a>) -> Term<'a> {
+        let term = Term {
+            n,
+            numbers: *numbers,
+        };
+        for _ in numbers.by_ref().take(n as usize) {}
+        term
+    }
+}
+
+impl fmt::Display for Term<'_> {
+    fn fmt<W: fmt::Write>(&self, f: &mut fmt::Formatter<W>) -> fmt::Result {
+        let mut powers = false;
+        for (variable, exponent) in (1..=self.n).zip(self.numbers) {
+            if exponent > 0 {
+                let times = if powers { "*" } else { "" };
+                write!(f, "{times}{}", Power { variable, exponent })?;
+                powers = true;
             }
-            push_power(text, heap, k + 1, exponent)?;
-            powers = true;
         }
+        if powers { Ok(()) } else { write!(f, "1") }
     }
-    if !powers {
-        text.push_str("1")?;
-    }
-    Ok(())
-}
-
-fn push_number(text: &mut String, heap: Global, number: u16) -> Result<(), AllocError>
-    ensures { OnOk result (string_bytes text.new ≡ string_bytes text.old ++ (codes " " ++ decimal number)) }
-{
-    let shown = format!(in heap; " {number}")?;
-    text.push_str(shown.as_str())
-}
-
-// A rule's term, its leading code and the codes of its other terms.
-fn push_rule(text: &mut String, heap: Global, n: u16, body: &[u8]) -> Result<(), AllocError> {
-    let mut numbers = Numbers::of(body);
-    text.push_str("rule ")?;
-    push_term(text, heap, n, &mut numbers)?;
-    text.push_str(" leading")?;
-    push_number(text, heap, numbers.number().unwrap_or(0))?;
-    text.push_str(" codes")?;
-    for _ in 0..body.len() {
-        match numbers.number() {
-            Some(code) => push_number(text, heap, code)?,
-            None => return Ok(()),
-        }
-    }
-    Ok(())
-}
-
-// A question's pairs, each a code and a term.
-fn push_question(text: &mut String, heap: Global, n: u16, body: &[u8]) -> Result<(), AllocError> {
-    let mut numbers = Numbers::of(body);
-    let pairs = numbers.number().unwrap_or(0);
-    text.push_str("question of")?;
-    push_number(text, heap, pairs)?;
-    text.push_str(if pairs == 1 { " pair:" } else { " pairs:" })?;
-    for k in 0..pairs {
-        if k > 0 {
-            text.push_str(",")?;
-        }
-        push_number(text, heap, numbers.number().unwrap_or(0))?;
-        text.push_str(" ")?;
-        push_term(text, heap, n, &mut numbers)?;
-    }
-    Ok(())
 }
 
 // A record with the place of its first byte.
-pub fn push_record(text: &mut String, heap: Global, placed: Placed<'_>) -> Result<(), AllocError> {
-    let byte = placed.byte;
-    let n = placed.variables;
-    let place = format!(in heap; "byte {byte}: ")?;
-    text.push_str(place.as_str())?;
-    match placed.record {
-        Record::Term(body) => {
-            text.push_str("term ")?;
-            push_term(text, heap, n, &mut Numbers::of(body))?;
+#[derive(Clone, Copy)]
+pub struct RecordLine<'a>(pub Placed<'a>);
+
+impl fmt::Display for RecordLine<'_> {
+    fn fmt<W: fmt::Write>(&self, f: &mut fmt::Formatter<W>) -> fmt::Result {
+        let Placed {
+            byte,
+            variables: n,
+            record,
+            ..
+        } = self.0;
+        let mut numbers = record.numbers();
+        write!(f, "byte {byte}: ")?;
+        match record {
+            Record::Term(_) => write!(f, "term {}", Term { n, numbers })?,
+            Record::Close => write!(f, "close")?,
+            Record::Rule(_) => {
+                let term = Term::next(n, &mut numbers);
+                let leading = Spaced(numbers.next().unwrap_or(0));
+                write!(f, "rule {term} leading{leading} codes")?;
+                for code in numbers {
+                    write!(f, "{}", Spaced(code))?;
+                }
+            }
+            Record::Check => write!(f, "check")?,
+            Record::Question(_) => {
+                let pairs = numbers.next().unwrap_or(0);
+                let count = Spaced(pairs);
+                let plural = if pairs == 1 { "" } else { "s" };
+                write!(f, "question of{count} pair{plural}:")?;
+                for k in 0..pairs {
+                    let comma = if k > 0 { "," } else { "" };
+                    let code = Spaced(numbers.next().unwrap_or(0));
+                    let term = Term::next(n, &mut numbers);
+                    write!(f, "{comma}{code} {term}")?;
+                }
+            }
+            Record::Strike(_) => write!(f, "strike {}", Term { n, numbers })?,
         }
-        Record::Close => text.push_str("close")?,
-        Record::Rule(body) => push_rule(text, heap, n, body)?,
-        Record::Check => text.push_str("check")?,
-        Record::Question(body) => push_question(text, heap, n, body)?,
-        Record::Strike(body) => {
-            text.push_str("strike ")?;
-            push_term(text, heap, n, &mut Numbers::of(body))?;
-        }
+        writeln!(f)
     }
-    text.push_str("\n")
 }
 
 // A fault's layer, its number, its byte and its record.
-pub fn fault_line(heap: Global, fault: SheetFault) -> Result<String, AllocError> {
-    let layer = match fault.layer() {
-        Layer::Number => "number",
-        Layer::Record => "record",
-        Layer::Book => "book",
-    };
-    let number = fault.number();
-    let byte = fault.byte();
-    let record = fault.record();
-    format!(in heap; "fault {layer} {number} {byte} {record}\n")
+#[derive(Clone, Copy)]
+pub struct FaultLine(pub SheetFault);
+
+impl fmt::Display for FaultLine {
+    fn fmt<W: fmt::Write>(&self, f: &mut fmt::Formatter<W>) -> fmt::Result {
+        let fault = self.0;
+        let layer = fault.layer().name();
+        let number = fault.number();
+        let byte = fault.byte();
+        let record = fault.record();
+        writeln!(f, "fault {layer} {number} {byte} {record}")
+    }
 }

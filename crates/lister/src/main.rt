@@ -4,13 +4,12 @@
 mod lines;
 mod listing;
 
-use crate::listing::listing;
+use crate::listing::Listing;
 use std::io;
 use std::io::Read;
 
 fn main(rt: HostRuntime) -> io::Result<()> {
-    let heap = rt.alloc();
-    let mut bytes = Vec::new(heap);
+    let mut bytes = Vec::new(rt.alloc());
     let _ = rt.stdin().read_to_end(&mut bytes)?;
-    rt.print(listing(heap, bytes.as_slice())?)
+    rt.print(Listing(bytes.as_slice()))
 }

@@ -16,7 +16,7 @@ use Rattle.lines.specs.Line.{Said, fault, text}
 use Rattle.report.specs.declared.heading.FieldKind.{FieldKind}
 use Rattle.report.specs.declared.stop.Stop.{Stop}
 use Rattle.report.specs.declared.stop.Stop.TheVariants as stop
-use Rattle.report.specs.Heading.{Headed, in_fault, kind_of, field_of, laid_with, after_heading, with_field, with_kind, headed}
+use Rattle.report.specs.Heading.{Headed, in_fault, kind_of, field_of, laid_with, refused_by_book, after_heading, with_field, with_kind, headed}
 use Rattle.report.specs.Running.{items, left, lines, told, report_lines, texts, Ends, Closed}
 use Rattle.report.proofs.Items.{items_any}
 
@@ -26,6 +26,15 @@ ends_same r was now ls ms e h = subst (Ends r was now) e h
 pub closed_ends : (d : Stop) (was out now : List ℕ) (ls : List Said) → Ends (Err d) was out ls → Closed d out now → now ≡ was ++ texts ls
 closed_ends (stop.Fault f) was out now ls h e = e ∙ h
 closed_ends stop.NoMemory was out now ls h e = absurd e
+
+-- a result that was placed: granted as it was, or refused at the place
+pub placed_by_book : {A : Type 0} (r : Result A Refusal) (byte count : ℕ) (f : Fault) → refused_by_book r byte count ≡ Err f → (e : Refusal) × (r ≡ Err e) × (f ≡ Book e byte count)
+placed_by_book (Ok x) byte count f h = cc
+placed_by_book (Err e) byte count f h = (e, refl, cc)
+
+pub granted_by_book : {A : Type 0} (r : Result A Refusal) (byte count : ℕ) (x : A) → refused_by_book r byte count ≡ Ok x → r ≡ Ok x
+granted_by_book (Ok y) byte count x h = cc
+granted_by_book (Err e) byte count x h = cc
 
 -- the heading's numbers leave the sheet as it is
 after_sheet : (s : State) → (after_heading s).sheet ≡ s.sheet

@@ -19,8 +19,7 @@ use Rattle.run.specs.Calls.{Step, lay, term, close, rule, strike, check, form as
 use Rattle.run.proofs.Law.{Kept, new_kept, changed_kept, next_kept, granted_meaning, granted_tells}
 use Rattle.sheet.specs.Fault as reading
 use Rattle.sheet.specs.Reading.{State, Seen, open_sheet, heading_number, begun}
-use Rattle.sheet.proofs.Heads.{next_ok}
-use Rattle.sheet_write.proofs.Accepts.{taken}
+use Rattle.sheet.proofs.Heads.{next_ok, taken}
 use Rattle.lines.specs.declared.fault.Fault.{Fault}
 use Rattle.lines.specs.Line.{Said, sound, clash}
 use Rattle.report.specs.declared.heading.FieldKind.{FieldKind}

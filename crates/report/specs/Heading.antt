@@ -2,10 +2,8 @@
 use Rattle.std.specs.Prelude.{ℕ, cond, List, Some, None, Ok, Err, Option, Result, ◌==◌}
 use Rattle.field.specs.Arithmetic.{Arithmetic}
 use Rattle.field.specs.Supplied.{among, primes, modulo, binary_sizes, binary}
+use Rattle.field.specs.declared.refusal.Refusal as refusal
 use Rattle.field.specs.declared.refusal.Refusal.TheVariants.{UnknownField}
-use Rattle.field.specs.declared.prime.Prime.{Prime}
-use Rattle.field.specs.declared.binary.Binary.{Binary}
-use Rattle.field.specs.Made.{modulus, size}
 use Rattle.book.specs.declared.refusal.Refusal.{Refusal}
 use Rattle.book.specs.Judge.{judge_lay}
 use Rattle.sheet.specs.declared.fault.SheetFault.{SheetFault}
@@ -24,6 +22,19 @@ in_fault (Err f) = Err (Sheet f)
 -- 0 is prime, 1 is binary
 abbrev pub kind_of : ℕ → ℕ → Result FieldKind Fault
 kind_of k byte = cond (k == 0) (Ok PrimeKind) (cond (k == 1) (Ok BinaryKind) (Err (Field UnknownField byte)))
+
+-- the kind without its place
+abbrev pub named_kind : ℕ → Result FieldKind refusal.Refusal
+named_kind k = cond (k == 0) (Ok PrimeKind) (cond (k == 1) (Ok BinaryKind) (Err UnknownField))
+
+-- what the field or the book refuses is placed at the byte that was judged
+abbrev pub refused_by_field : {A : Type 0} → Result A refusal.Refusal → ℕ → Result A Fault
+refused_by_field (Ok x) byte = Ok x
+refused_by_field (Err r) byte = Err (Field r byte)
+
+abbrev pub refused_by_book : {A : Type 0} → Result A Refusal → ℕ → ℕ → Result A Fault
+refused_by_book (Ok x) byte count = Ok x
+refused_by_book (Err r) byte count = Err (Book r byte count)
 
 abbrev pub field_of : FieldKind → ℕ → ℕ → Result Arithmetic Fault
 field_of PrimeKind p byte = cond (among primes p) (Ok (modulo p)) (Err (Field UnknownField byte))
@@ -60,12 +71,3 @@ headed bytes =
     next (in_fault (open_sheet bytes)) (λ s.
     next (in_fault (heading_number s)) (λ k.
     next (kind_of k.0 k.1) (with_kind (after_heading s))))
-
--- the arithmetic of a field that was made
-abbrev pub made_prime : Result Prime Fault → Result Arithmetic Fault
-made_prime (Ok f) = Ok (modulo (modulus f))
-made_prime (Err e) = Err e
-
-abbrev pub made_binary : Result Binary Fault → Result Arithmetic Fault
-made_binary (Ok f) = Ok (binary (size f))
-made_binary (Err e) = Err e

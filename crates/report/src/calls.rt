@@ -13,86 +13,97 @@ use std::alloc::{AllocError, Global};
 const SLOTS: usize = 4096;
 
 // The numbers that are left.
-fn codes(heap: Global, numbers: &mut Numbers<'_>) -> Result<Vec<u16>, AllocError>
-    ensures { IfOk result (λ v. v.items ≡ left numbers.old) }
+fn codes(heap: Global, numbers: Numbers<'_>) -> Result<Vec<u16>, AllocError>
+    ensures { IfOk result (λ v. v.items ≡ left numbers.entry) }
 {
-    let mut codes = Vec::new(heap);
-    while let Some(code) = numbers.number() {
-        codes.push(code)?;
+    numbers.collect(heap)
+}
+
+// Makes the calls on a book with `n` variables and `size` terms, their slices on `heap`.
+#[derive(Clone, Copy)]
+struct Maker {
+    heap: Global,
+    n: u16,
+    size: usize,
+}
+
+impl Maker {
+    fn term(self, body: &[u8]) -> Term
+        ensures { result ≡ exponents_of (min self.n 8) (numbers_of body.now) }
+    {
+        let mut numbers = Numbers::of(body);
+        numbers.exponents(self.n)
     }
-    Ok(codes)
-}
 
-fn term(n: u16, body: &[u8]) -> Term
-    ensures { result ≡ exponents_of (min n 8) (numbers_of body.now) }
-{
-    let mut numbers = Numbers::of(body);
-    numbers.exponents(n)
-}
-
-fn rule_call(heap: Global, n: u16, body: &[u8]) -> Result<Call, AllocError>
-    ensures { IfOk result (λ call. step_of call ≡ rule_step (exponents_of (min n 8) (numbers_of body.now)) (slice_index (numbers_of body.now) (min n 8)) (drop (min n 8 + 1) (numbers_of body.now))) }
-{
-    let mut numbers = Numbers::of(body);
-    let term = numbers.exponents(n);
-    let lead = numbers.number().unwrap_or(0);
-    let row = codes(heap, &mut numbers)?;
-    Ok(Call::Rule(Given { term, lead, row }))
-}
-
-fn pairs(heap: Global, n: u16, body: &[u8]) -> Result<Vec<(u16, Term)>, AllocError>
-    ensures { IfOk result (λ v. v.items ≡ pairs_from (min n 8) (slice_index (numbers_of body.now) 0) (drop 1 (numbers_of body.now))) }
-{
-    let mut numbers = Numbers::of(body);
-    let count = numbers.number().unwrap_or(0);
-    let mut pairs = Vec::new(heap);
-    for _k in 0..count {
-        let code = numbers.number().unwrap_or(0);
-        let term = numbers.exponents(n);
-        pairs.push((code, term))?;
+    fn rule(self, body: &[u8]) -> Result<Call, AllocError>
+        ensures { IfOk result (λ call. step_of call ≡ rule_step (exponents_of (min self.n 8) (numbers_of body.now)) (slice_index (numbers_of body.now) (min self.n 8)) (drop (min self.n 8 + 1) (numbers_of body.now))) }
+    {
+        let mut numbers = Numbers::of(body);
+        let term = numbers.exponents(self.n);
+        let lead = numbers.next().unwrap_or(0);
+        let row = codes(self.heap, numbers)?;
+        Ok(Call::Rule(Given { term, lead, row }))
     }
-    Ok(pairs)
-}
 
-fn slots(heap: Global) -> Result<Vec<Entry>, AllocError>
-    ensures { IfOk result (λ v. v.items ≡ all_slots) }
-{
-    let blank = Entry {
-        code: 0,
-        multiplier: [0; 8],
-        place: 0,
-    };
-    vec![in heap; blank; SLOTS]
-}
+    // By a loop: of a closure that takes numbers out as it goes, the prover knows no result.
+    fn pairs(self, body: &[u8]) -> Result<Vec<(u16, Term)>, AllocError>
+        ensures { IfOk result (λ v. v.items ≡ pairs_from (min self.n 8) (slice_index (numbers_of body.now) 0) (drop 1 (numbers_of body.now))) }
+    {
+        let mut numbers = Numbers::of(body);
+        let count = numbers.next().unwrap_or(0);
+        let mut pairs = Vec::new(self.heap);
+        for _ in 0..count {
+            let code = numbers.next().unwrap_or(0);
+            let term = numbers.exponents(self.n);
+            pairs.push((code, term))?;
+        }
+        Ok(pairs)
+    }
 
-fn check_call(heap: Global, size: usize) -> Result<Call, AllocError>
-    ensures { IfOk result (λ call. step_of call ≡ check_step (replicate size 0) all_slots) }
-{
-    let row = vec![in heap; 0u16; size]?;
-    let slots = slots(heap)?;
-    Ok(Call::Check(row, slots))
-}
+    fn slots(self) -> Result<Vec<Entry>, AllocError>
+        ensures { IfOk result (λ v. v.items ≡ all_slots) }
+    {
+        let blank = Entry {
+            code: 0,
+            multiplier: [0; 8],
+            place: 0,
+        };
+        vec![in self.heap; blank; SLOTS]
+    }
 
-fn question_call(heap: Global, size: usize, n: u16, body: &[u8]) -> Result<Call, AllocError>
-    ensures { IfOk result (λ call. step_of call ≡ cofactor_step (pairs_from (min n 8) (slice_index (numbers_of body.now) 0) (drop 1 (numbers_of body.now))) (replicate size 0) all_slots) }
-{
-    let pairs = pairs(heap, n, body)?;
-    let row = vec![in heap; 0u16; size]?;
-    let slots = slots(heap)?;
-    Ok(Call::Cofactors(pairs, row, slots))
+    fn check(self) -> Result<Call, AllocError>
+        ensures { IfOk result (λ call. step_of call ≡ check_step (replicate self.size 0) all_slots) }
+    {
+        let row = vec![in self.heap; 0u16; self.size]?;
+        let slots = self.slots()?;
+        Ok(Call::Check(row, slots))
+    }
+
+    fn question(self, body: &[u8]) -> Result<Call, AllocError>
+        ensures { IfOk result (λ call. step_of call ≡ cofactor_step (pairs_from (min self.n 8) (slice_index (numbers_of body.now) 0) (drop 1 (numbers_of body.now))) (replicate self.size 0) all_slots) }
+    {
+        let pairs = self.pairs(body)?;
+        let row = vec![in self.heap; 0u16; self.size]?;
+        let slots = self.slots()?;
+        Ok(Call::Cofactors(pairs, row, slots))
+    }
 }
 
 // What a record asks of a book with `size` terms.
 pub(crate) fn call_of(heap: Global, size: usize, placed: Placed<'_>) -> Result<Call, AllocError>
     ensures { IfOk result (λ call. step_of call ≡ made_call (min placed.entry.variables 8) size (seen placed.entry).kind (numbers_of (seen placed.entry).body)) }
 {
-    let n = placed.variables;
+    let maker = Maker {
+        heap,
+        n: placed.variables,
+        size,
+    };
     match placed.record {
-        Record::Term(body) => Ok(Call::Term(term(n, body))),
+        Record::Term(body) => Ok(Call::Term(maker.term(body))),
         Record::Close => Ok(Call::Close),
-        Record::Rule(body) => rule_call(heap, n, body),
-        Record::Check => check_call(heap, size),
-        Record::Question(body) => question_call(heap, size, n, body),
-        Record::Strike(body) => Ok(Call::Strike(term(n, body))),
+        Record::Rule(body) => maker.rule(body),
+        Record::Check => maker.check(),
+        Record::Question(body) => maker.question(body),
+        Record::Strike(body) => Ok(Call::Strike(maker.term(body))),
     }
 }

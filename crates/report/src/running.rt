@@ -3,22 +3,22 @@ ghost use Rattle.std.specs.Prelude.{◌≡◌, ◌≤◌, ◌++◌, length, IfOk
 ghost use Rattle.book.specs.Kept.{ledger};
 ghost use Rattle.run.specs.Calls.{step_of};
 ghost use Rattle.sheet.specs.Reading.{state, seen};
-ghost use Rattle.lines.specs.Line.{said, text, width, fault as said_fault};
+ghost use Rattle.lines.specs.Line.{said, text, width};
 ghost use Rattle.report.specs.Heading.{with_field, headed};
 ghost use Rattle.report.specs.Running.{items, row_left, printed, said_all, lines as lines_of, told, report_lines, texts, left, Ends, Closed, RecordEnds};
 ghost use Rattle.report.specs.Telling.{Reported};
 
 use crate::calls::call_of;
-use crate::heading::{FieldKind, binary, field_kind, prime};
-use crate::stop::Stop;
+use crate::heading::FieldKind;
+use crate::stop::{Stop, by_book, by_field};
 use book::{Book, Verdict};
-use field::Field;
-use lines::{Fault, Line};
+use field::{Binary, Field, Prime};
+use lines::Line;
 use run::{Answer, Call, perform};
 use sheet::{Placed, Reader};
 use std::alloc::{AllocError, Global};
 
-// Every line of a book fits: its row has at most 32 codes.
+// Every line of a book fits: its row has at most 32 codes. So a line is written on the stack, and only its bytes go to the heap.
 const LINE: usize = 1024;
 
 fn push_line(out: &mut Vec<u8>, line: Line<'_>) -> Result<(), AllocError>
@@ -32,7 +32,7 @@ fn push_line(out: &mut Vec<u8>, line: Line<'_>) -> Result<(), AllocError>
     }
 }
 
-// The row that a question has left.
+// The row that a question has left. Empty and no Option where there is none: it is printed as it is.
 fn row_left(call: &Call) -> &[u16]
     ensures { result.now ≡ row_left (step_of call.now) }
 {
@@ -72,15 +72,8 @@ fn push_answer(out: &mut Vec<u8>, call: &Call, answer: Answer) -> Result<(), All
     }
 }
 
-fn fault_line(fault: Fault) -> Line<'static>
-    ensures { said result ≡ said_fault fault }
-{
-    Line::Fault(fault)
-}
-
 // Puts the call of a record to the book, and pushes its line.
 fn run_record<F: Field>(
-    heap: Global,
     book: &mut Book<F>,
     placed: Placed<'_>,
     out: &mut Vec<u8>,
@@ -90,23 +83,14 @@ fn run_record<F: Field>(
 {
     let byte = placed.byte;
     let record = placed.count;
-    let mut call = call_of(heap, book.size(), placed)?;
-    match perform(book, &mut call) {
-        Ok(answer) => {
-            push_answer(out, &call, answer)?;
-            Ok(())
-        }
-        Err(refusal) => Err(Stop::Fault(Fault::Book {
-            refusal,
-            byte,
-            record,
-        })),
-    }
+    let mut call = call_of(*out.allocator(), book.size(), placed)?;
+    let answer = by_book(perform(book, &mut call), byte, record)?;
+    push_answer(out, &call, answer)?;
+    Ok(())
 }
 
 // The records from where the reader stands to the end of the sheet.
 fn run_records<F: Field>(
-    heap: Global,
     book: &mut Book<F>,
     reader: &mut Reader<'_>,
     out: &mut Vec<u8>,
@@ -114,14 +98,13 @@ fn run_records<F: Field>(
     ensures { Ends result out.old.items out.new.items (lines_of (F.Field.meaning book.old.field) (ledger book.old.contents) (items (left (state reader.old)) (state reader.old))) }
 {
     while let Some(placed) = reader.next()? {
-        run_record(heap, book, placed, out)?;
+        run_record(book, placed, out)?;
     }
     Ok(())
 }
 
 // The rest of a sheet over a field: the number of variables, and the records.
 fn run_over<F: Field + Drop>(
-    heap: Global,
     field: F,
     reader: &mut Reader<'_>,
     out: &mut Vec<u8>,
@@ -130,27 +113,21 @@ fn run_over<F: Field + Drop>(
 {
     let (variables, byte) = reader.heading_number()?;
     let mut book = Book::new(field);
-    if let Err(refusal) = book.lay(variables) {
-        return Err(Stop::Fault(Fault::Book {
-            refusal,
-            byte,
-            record: 0,
-        }));
-    }
+    by_book(book.lay(variables), byte, 0)?;
     reader.begin(variables);
-    run_records(heap, &mut book, reader, out)
+    run_records(&mut book, reader, out)
 }
 
-fn run_sheet(heap: Global, sheet: &[u8], out: &mut Vec<u8>) -> Result<(), Stop>
+fn run_sheet(sheet: &[u8], out: &mut Vec<u8>) -> Result<(), Stop>
     ensures { Ends result out.old.items out.new.items (report_lines sheet.now) }
 {
     let mut reader = Reader::open(sheet)?;
     let (kind, kind_byte) = reader.heading_number()?;
-    let kind = field_kind(kind, kind_byte)?;
+    let kind = by_field(FieldKind::try_from(kind), kind_byte)?;
     let (number, byte) = reader.heading_number()?;
     match kind {
-        FieldKind::PrimeKind => run_over(heap, prime(number, byte)?, &mut reader, out),
-        FieldKind::BinaryKind => run_over(heap, binary(number, byte)?, &mut reader, out),
+        FieldKind::PrimeKind => run_over(by_field(Prime::new(number), byte)?, &mut reader, out),
+        FieldKind::BinaryKind => run_over(by_field(Binary::new(number), byte)?, &mut reader, out),
     }
 }
 
@@ -159,7 +136,7 @@ fn push_stop(out: &mut Vec<u8>, stop: Stop) -> Result<(), AllocError>
     ensures { OnOk result (Closed stop out.old.items out.new.items) }
 {
     match stop {
-        Stop::Fault(fault) => push_line(out, fault_line(fault)),
+        Stop::Fault(fault) => push_line(out, Line::Fault(fault)),
         Stop::NoMemory => Err(AllocError),
     }
 }
@@ -170,11 +147,8 @@ pub fn report(heap: Global, sheet: &[u8]) -> Result<Vec<u8>, AllocError>
     ensures meaning { IfOk result (λ v. Reported sheet.now v.items) }
 {
     let mut out = Vec::new(heap);
-    match run_sheet(heap, sheet, &mut out) {
-        Ok(()) => Ok(out),
-        Err(stop) => {
-            push_stop(&mut out, stop)?;
-            Ok(out)
-        }
+    if let Err(stop) = run_sheet(sheet, &mut out) {
+        push_stop(&mut out, stop)?;
     }
+    Ok(out)
 }

@@ -1,6 +1,7 @@
 // Why a run stops before the end of its sheet.
 ghost use Rattle.std.specs.Prelude.{◌≡◌};
 ghost use Rattle.lines.specs.declared.fault.Fault.TheVariants as faults;
+ghost use Rattle.report.specs.Heading.{refused_by_field, refused_by_book};
 ghost use Rattle.report.specs.declared.stop.Stop.TheVariants as stops;
 
 use lines::Fault;
@@ -35,4 +36,26 @@ impl From<AllocError> for Stop {
     fn from(_error: AllocError) -> Stop {
         Stop::NoMemory
     }
+}
+
+// A refusal by the field stands at the number that was judged.
+pub(crate) fn by_field<T>(made: Result<T, field::Refusal>, byte: usize) -> Result<T, Fault>
+    ensures { result ≡ refused_by_field made byte }
+{
+    made.map_err(|refusal| Fault::Field { refusal, byte })
+}
+
+// A refusal by the book stands at the first byte of its record, from 1, or in no record at a number of the heading.
+pub(crate) fn by_book<T>(
+    granted: Result<T, book::Refusal>,
+    byte: usize,
+    record: usize,
+) -> Result<T, Fault>
+    ensures { result ≡ refused_by_book granted byte «record» }
+{
+    granted.map_err(|refusal| Fault::Book {
+        refusal,
+        byte,
+        record,
+    })
 }

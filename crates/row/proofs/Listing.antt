@@ -1,12 +1,9 @@
 -- What writing entries into slots leaves. Assumes nothing.
-use Rattle.std.proofs.Common.{◌≡◌, ℕ, suc, ◌<◌, ◌≤◌, ltb, List, [], ◌∷◌, ◌++◌, length, drop, sym, refl, ap, ◌∙◌, append_assoc, append-nil, arith, length-append}
+use Rattle.std.proofs.Common.{◌≡◌, suc, ◌<◌, ◌≤◌, ltb, List, [], ◌∷◌, ◌++◌, length, drop, sym, refl, ap, ◌∙◌, append_assoc, append-nil, arith, length-append}
 use Rattle.std.proofs.lemmas.List.{set_at}
 use Rattle.std.proofs.lemmas.Bool.{cond-true, lt-ltb}
 use Rattle.algebra.specs.declared.Entry.{Entry}
-use Rattle.row.specs.Listing.{Listed, listed_one, listed_all}
-
-abbrev pub listing : List Entry → ℕ → Listed
-listing slots count = record { slots = slots; count = count }
+use Rattle.row.specs.Listing.{Listed, listing, listed_one, listed_all}
 
 pub listed_all_append : (l : Listed) (es fs : List Entry) → listed_all l (es ++ fs) ≡ listed_all (listed_all l es) fs
 listed_all_append l [] fs = refl

@@ -1,10 +1,15 @@
 -- The map of a variable on rows, by where its products with the terms lead. Assumes nothing.
-use Rattle.std.specs.Prelude.{ℕ, cond, List, [], ◌∷◌, length, ◌==◌, nat_le}
+use Rattle.std.specs.Prelude.{ℕ, cond, List, [], ◌∷◌, map, length, Option, ◌==◌, nat_le}
+use Rattle.std.specs.Option.{unwrap_or}
 use Rattle.field.specs.Arithmetic.{Ring}
 use Rattle.algebra.specs.Border.{Row, at_place}
 use Rattle.row.specs.declared.lead.Lead.{Lead}
 use Rattle.row.specs.declared.lead.Lead.TheVariants.{Inside, OnBorder}
 use Rattle.row.specs.Sums.{add_multiple, add_at, zeros_like}
+
+-- the rows of the places, empty where there is none
+abbrev pub given_rows : List (Option Row) → List Row
+given_rows os = map (λ (o : Option Row). unwrap_or o []) os
 
 -- a code times what a lead stands for, added to a row
 abbrev pub add_led : Ring → List Row → Row → ℕ → Lead → Row

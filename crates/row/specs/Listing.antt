@@ -13,9 +13,12 @@ pub record Listed : Type 0 where
   pub slots : List Entry
   pub count : ℕ
 
+abbrev pub listing : List Entry → ℕ → Listed
+listing slots count = record { slots = slots; count = count }
+
 -- one entry more, where there is a slot for it
 abbrev pub listed_one : Listed → Entry → Listed
-listed_one l e = cond (nat_lt l.count (length l.slots)) (record { slots = slice_set l.slots l.count e; count = suc l.count }) l
+listed_one l e = cond (nat_lt l.count (length l.slots)) (listing (slice_set l.slots l.count e) (suc l.count)) l
 
 abbrev pub listed_all : Listed → List Entry → Listed
 listed_all l [] = l

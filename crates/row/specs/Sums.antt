@@ -3,6 +3,12 @@ use Rattle.std.specs.Prelude.{ℕ, zero, suc, [], ◌∷◌, slice_index, slice_
 use Rattle.field.specs.Arithmetic.{Ring}
 use Rattle.algebra.specs.Border.{Row}
 
+-- each code combined with the code beside it, as far as both rows go
+abbrev pub combined : (ℕ → ℕ → ℕ) → Row → Row → Row
+combined g [] w = []
+combined g (a ∷ v) [] = a ∷ v
+combined g (a ∷ v) (b ∷ w) = g a b ∷ combined g v w
+
 -- a code times a row, added to a row
 abbrev pub add_multiple : Ring → Row → ℕ → Row → Row
 add_multiple R [] c w = []

@@ -3,10 +3,10 @@
 
 mod lead;
 mod maps;
+mod slots;
 mod sums;
-mod walks;
 
 pub use lead::Lead;
-pub use maps::advance;
+pub use maps::Maps;
+pub use slots::Slots;
 pub use sums::{add_multiple, clear, is_zero, subtract};
-pub use walks::{list_entry, list_step, walk};

@@ -1,16 +1,15 @@
 -- Every run keeps the law. Assumes nothing.
 use Rattle.std.proofs.Common.{◌≡◌, ℕ, zero, suc, ◌-◌, ◌*◌, ◌<◌, ◌≤◌, Bool, true, false, not, ◌&&◌, eqb, ltb, leb, List, [], ◌∷◌, map, length, set, is_ok, Some, None, Option, unwrap_or, sym, refl, ap, ◌∙◌, subst, ⊎_elim, arith}
-use Rattle.std.proofs.lemmas.List.{length-set, get_or-set_same}
+use Rattle.std.proofs.lemmas.List.{length-map, length-set, get_or-set_same}
 use Rattle.std.proofs.lemmas.Bool.{both_ways, and_parts, leb-true, eqb-false, cases_lt}
 use Rattle.field.specs.Arithmetic.{Arithmetic, ring, Lawful}
-use Rattle.algebra.specs.Term.{Term, has, place, zero_past, next_place}
+use Rattle.algebra.specs.Term.{Term, has, place, zero_past}
 use Rattle.algebra.specs.Polynomial.{Polynomial, Over}
-use Rattle.algebra.specs.Border.{Row, System, connected, AreRows, LawfulSystem}
+use Rattle.algebra.specs.Border.{Row, System, AreRows, LawfulSystem}
 use Rattle.algebra.specs.Walk.{normal_form, all_zero}
 use Rattle.algebra.specs.Clash.{first_clash}
 use Rattle.algebra.specs.Theorems.{Independent}
 use Rattle.algebra.specs.declared.Clash.{Clash}
-use Rattle.algebra.proofs.Rows.{map_length}
 use Rattle.algebra.proofs.Clashes.{no_clash, border_basis_theorem}
 use Rattle.term.specs.Search.{first_place}
 use Rattle.book.specs.declared.phase.Phase.{Phase}
@@ -24,10 +23,14 @@ use Rattle.book.specs.Ledger.{Ledger, new_ledger, edge, system}
 use Rattle.book.specs.Effects.{phase_of, verdict, kept_row, yes_no}
 use Rattle.book.specs.Kept.{terms_fit, is_closed}
 use Rattle.book.proofs.Adding.{fit_more}
+use Rattle.book.proofs.Searching.{next_zero, place_within}
+use Rattle.book.proofs.Ready.{fit_connected}
+use Rattle.book.proofs.Filling.{open_for_terms}
 use Rattle.book.proofs.Granting.{refuse_none, refuse_at_none, not_false_true}
 use Rattle.book.proofs.Admitting.{rule_admitted, strike_admitted, check_admitted, form_admitted, cofactors_admitted}
+use Rattle.book.proofs.Answering.{closed_after}
 use Rattle.book.proofs.Meaning.{over_from, verdict_means, form_means, cofactors_mean}
-use Rattle.run.proofs.Scaling.{place_bound, all_fit, row_back}
+use Rattle.run.proofs.Scaling.{all_fit, row_back}
 use Rattle.run.specs.Calls.{Step, lay, term, close, rule, strike, check, form, cofactor, table, judge, value, changed, finished, answer, next, finish}
 use Rattle.run.specs.Runs.{stands, stands_after, verdict_stands, GrantedExactly, FormTells, Means, Meaning, RunLaw, run}
 use Rattle.run.specs.Further.{judge_variable, TableGrantedExactly, Tells, Telling, RunTells}
@@ -62,27 +65,13 @@ not_closed p e h = absurd (both_ways false refl (sym (ap is_closed e) ∙ h))
 not_sound : {X : Type 0} (p : Phase) → is_sound p ≡ false → p ≡ Sound → X
 not_sound p e h = absurd (both_ways (is_sound p) e (ap is_sound h))
 
-open_phase : (p : Phase) → allowed p AddTerm ≡ true → p ≡ Open
-open_phase Open h = refl
-open_phase Closed h = absurd (both_ways false refl h)
-open_phase Sound h = absurd (both_ways false refl h)
-open_phase Clashing h = absurd (both_ways false refl h)
-
 pub new_kept : (A : Arithmetic) → Kept A new_ledger
 new_kept A = record { few = omega arith; fit = refl; shaped = λ h. absurd (both_ways false refl h); sound = not_sound Open refl }
-
-next_zero : (k : ℕ) → next_place k ≡ 0 → k ≡ 0
-next_zero zero e = refl
-next_zero (suc k) e = absurd (omega arith)
 
 rows_given : (S : List Term) (os : List (Option Row)) → Long (length S) os → first_place missing os ≡ 0 → AreRows S (map (λ (o : Option Row). unwrap_or o []) os)
 rows_given S [] l z = tt
 rows_given S (None ∷ os) l z = absurd (omega arith)
 rows_given S (Some r ∷ os) l z = (l.0, rows_given S os l.1 (next_zero _ z))
-
-fit_connected : (n : ℕ) (S : List Term) → 1 ≤ length S → terms_fit n S ≡ true → connected n S ≡ true
-fit_connected n [] h f = absurd (omega arith)
-fit_connected n (t ∷ ts) h f = f
 
 -- a closed ledger that lacks no rule is a lawful system
 lawful_system : (A : Arithmetic) (L : Ledger) → Kept A L → is_closed L.phase ≡ true → first_place missing L.rows ≡ 0 → LawfulSystem (system L)
@@ -91,7 +80,7 @@ lawful_system A L k c z =
     record {
       few_variables = k.few;
       is_connected = fit_connected L.variables L.terms s.some k.fit;
-      all_rules = map_length (λ (o : Option Row). unwrap_or o []) L.rows ∙ s.counted;
+      all_rules = length-map L.rows _ ∙ s.counted;
       are_rows = rows_given L.terms L.rows s.long z;
     }
 
@@ -117,10 +106,6 @@ clash_phase : (A : Arithmetic) (L : Ledger) (o : Option Clash) → first_clash (
 clash_phase A L None e h = e
 clash_phase A L (Some x) e h = not_sound Clashing refl h
 
-closed_phase : (o : Option Clash) → is_closed (phase_of o) ≡ true
-closed_phase None = refl
-closed_phase (Some x) = refl
-
 -- a granted call keeps the ledger's facts
 pub changed_kept : (A : Arithmetic) (L : Ledger) → Kept A L → (s : Step) → judge A L s ≡ None → Kept A (changed A L s)
 changed_kept A L k (lay n) e =
@@ -129,7 +114,7 @@ changed_kept A L k (lay n) e =
     record { few = leb-true n 8 q.1; fit = refl; shaped = λ h. absurd (both_ways false refl h); sound = not_sound Open refl }
 changed_kept A L k (term t) e =
     let p = refuse_none (not (allowed L.phase AddTerm)) WrongPhase _ e in
-    let o = open_phase L.phase (not_false_true _ p.0) in
+    let o = open_for_terms L.phase (not_false_true _ p.0) in
     let q = refuse_none (not (zero_past L.variables t)) (ExponentPastVariables 1) _ p.1 in
     let new = refuse_none (has t L.terms) TermPresent _ q.1 in
     let join = refuse_none (not (joins L.variables L.terms t)) TermNotJoined _ new.1 in
@@ -147,7 +132,7 @@ changed_kept A L k close e =
       fit = k.fit;
       shaped = λ _. record {
         some = ⊎_elim (λ h. h) (λ h. absurd (eqb-false (length L.terms) 0 q.0 (omega arith))) (cases_lt 0 (length L.terms));
-        counted = map_length (λ (_ : Term). None) (edge L);
+        counted = length-map (edge L) _;
         long = long_none (length L.terms) (edge L);
       };
       sound = not_sound Closed refl;
@@ -161,7 +146,7 @@ changed_kept A L k (rule e c r) h =
       shaped = λ _. record {
         some = s.some;
         counted = length-set L.rows _ (Some (kept_row A c r)) ∙ s.counted;
-        long = long_set (length L.terms) L.rows _ (kept_row A c r) s.long (map_length _ r ∙ a.long);
+        long = long_set (length L.terms) L.rows _ (kept_row A c r) s.long (length-map r _ ∙ a.long);
       };
       sound = not_sound Closed refl;
     }
@@ -203,7 +188,7 @@ next_stands A b L tie s = go (judge A L s) refl s refl
   where
     after : (s : Step) → judge A L s ≡ None → stands_after b s (value A L s) ≡ is_sound (changed A L s).phase
     after (lay n) e = refl
-    after (term t) e = sym (ap is_sound (open_phase L.phase (not_false_true _ (refuse_none (not (allowed L.phase AddTerm)) WrongPhase _ e).0)))
+    after (term t) e = sym (ap is_sound (open_for_terms L.phase (not_false_true _ (refuse_none (not (allowed L.phase AddTerm)) WrongPhase _ e).0)))
     after close e = refl
     after (rule x k r) e = refl
     after (strike x) e = refl
@@ -266,7 +251,7 @@ module _ (A : Arithmetic) (laws : Lawful A) (L : Ledger) (k : Kept A L) where
   on_border x later h =
       let p = refuse_none (not (zero_past L.variables x)) (ExponentPastVariables 1) _ h in
       let q = refuse_none (eqb (place x (edge L)) 0) NotOnBorder later p.1 in
-      (⊎_elim (λ some. omega (arith, some, place_bound x (edge L))) (λ none. absurd (eqb-false (place x (edge L)) 0 q.0 (omega arith))) (cases_lt 0 (place x (edge L))), q.1)
+      (⊎_elim (λ some. omega (arith, some, place_within x (edge L))) (λ none. absurd (eqb-false (place x (edge L)) 0 q.0 (omega arith))) (cases_lt 0 (place x (edge L))), q.1)
 
   -- what the form of a polynomial says in a sound book
   form_tells : L.phase ≡ Sound → (p : Polynomial) → Over L.variables p → FormTells A L p (normal_form (ring A) (system L) p) (all_zero (normal_form (ring A) (system L) p))

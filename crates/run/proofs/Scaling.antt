@@ -10,15 +10,6 @@ use Rattle.term.specs.Search.{first_place}
 use Rattle.book.specs.Judge.{unfit}
 use Rattle.book.specs.Effects.{kept_row}
 
-pub place_bound : (t : Term) (ts : List Term) → place t ts ≤ length ts
-place_bound t [] = omega arith
-place_bound t (u ∷ us) = go (same t u) (place t us) (place_bound t us)
-  where
-    go : (b : Bool) (k : ℕ) → k ≤ length us → cond b 1 (next_place k) ≤ suc (length us)
-    go true k h = omega arith
-    go false zero h = omega arith
-    go false (suc k) h = omega arith
-
 abbrev pub AllBelow : ℕ → List ℕ → Type 0
 AllBelow q [] = Unit {0}
 AllBelow q (c ∷ cs) = (c < q) × AllBelow q cs

@@ -24,13 +24,14 @@ pub enum Call {
 }
 
 // What a granted call answers. A call with no answer of its own is done, which counts as 0.
+// `Counted` keeps the 1 for yes or 0 for no that the book answers, so that every answer is the book's.
 #[derive(Clone, Copy, Drop)]
 pub enum Answer {
     Done,
     Border(usize),
     Checked(Verdict),
     Formed(bool),
-    Counted(usize, u8),
+    Counted(usize, u8), // the pair that `cofactors` answers
 }
 
 // A call and, once it was run, its answer.

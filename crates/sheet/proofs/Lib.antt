@@ -1,7 +1,7 @@
 pub mod Bodies
 pub mod Copies
-pub mod Cuts
 pub mod Digits
 pub mod Heads
 pub mod Lists
+pub mod Progress
 pub mod Steps

@@ -1,6 +1,7 @@
 -- The numbers of a body as a list. Assumes nothing.
-use Rattle.std.proofs.Common.{◌≡◌, ℕ, zero, suc, ◌+◌, ◌<◌, ◌≤◌, List, [], ◌∷◌, ◌++◌, length, drop, Ok, Err, sym, refl, ap, ◌∙◌, subst, arith, length-drop, take-append-drop}
-use Rattle.std.proofs.lemmas.List.{length-take-le, get_or-drop}
+use Rattle.std.proofs.Common.{◌≡◌, ℕ, zero, suc, ◌+◌, ◌-◌, ◌<◌, ◌≤◌, List, [], ◌∷◌, ◌++◌, length, take, drop, Some, Ok, Err, sym, refl, ap, ◌∙◌, subst, arith, length-drop, take-append-drop}
+use Rattle.std.proofs.lemmas.List.{length-take-le, get_or-drop, take_rest}
+use Rattle.std.specs.Result.{result_ok}
 use Rattle.sheet.specs.declared.number.NumberCause.{NumberCause}
 use Rattle.sheet.specs.Number.{Bytes, number_bytes, Reading, read_number, Taken, ReadAsWritten}
 use Rattle.sheet.specs.Numbers.{listed, numbers_in, numbers_of}
@@ -39,6 +40,11 @@ numbers_more (b ∷ bs) v s e =
     let some : 1 ≤ s = subst SomeBytes e (number_some 65535 (b ∷ bs)) in
     ap (λ (r : Reading). listed r (λ p. p.0 ∷ numbers_in (length bs) (drop p.1 (b ∷ bs)))) e
     ∙ ap (λ xs. v ∷ xs) (turns_free (length bs) (length (drop s (b ∷ bs))) (drop s (b ∷ bs)) (omega (arith, length-drop s (b ∷ bs))) (omega arith))
+
+-- the number that came out, and those that are left
+pub numbers_next : (bytes : List ℕ) (r : Reading) (v s : ℕ) → r ≡ read_number 65535 bytes → Some (v, s) ≡ result_ok r → numbers_of bytes ≡ v ∷ numbers_of (take (length bytes - s) (drop s bytes))
+numbers_next bytes (Ok p) v s e f = numbers_more bytes v s (sym e ∙ cc) ∙ ap (λ bs. v ∷ numbers_of bs) (sym (take_rest bytes s))
+numbers_next bytes (Err cause) v s e f = cc
 
 pub numbers_none : (bytes : List ℕ) (cause : NumberCause) → read_number 65535 bytes ≡ Err cause → numbers_of bytes ≡ []
 numbers_none [] cause e = refl

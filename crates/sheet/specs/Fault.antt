@@ -1,5 +1,5 @@
 -- What a fault says: its number, the place of its byte in the sheet, the record that it was met in, and its layer. Assumes nothing.
-use Rattle.std.specs.Prelude.{ℕ, Ok, Err, Result}
+use Rattle.std.specs.Prelude.{ℕ, List, Ok, Err, codes, Result}
 use Rattle.sheet.specs.declared.number.NumberCause.{NumberCause}
 use Rattle.sheet.specs.declared.number.NumberCause.TheVariants.{Unfinished, NotShortest, TooLarge}
 use Rattle.sheet.specs.declared.fault.NumberFault.{NumberFault}
@@ -9,6 +9,10 @@ use Rattle.sheet.specs.declared.fault.SheetFault.{SheetFault}
 use Rattle.sheet.specs.declared.fault.SheetFault.TheVariants.{Record, WrongOpening, TooLong}
 use Rattle.sheet.specs.declared.fault.Layer.{Layer}
 use Rattle.sheet.specs.declared.fault.Layer.TheVariants as layer
+
+-- what a number's fault says at a byte of a record
+abbrev pub fault_at : ℕ → ℕ → NumberCause → NumberFault
+fault_at byte count cause = record { cause = cause; byte = byte; «record» = count }
 
 abbrev pub cause_number : NumberCause → ℕ
 cause_number Unfinished = 18
@@ -52,6 +56,11 @@ abbrev pub fault_record : SheetFault → ℕ
 fault_record (Record f) = record_count f
 fault_record WrongOpening = 0
 fault_record TooLong = 0
+
+abbrev pub layer_name : Layer → List ℕ
+layer_name layer.Number = codes "number"
+layer_name layer.Record = codes "record"
+layer_name layer.Book = codes "book"
 
 abbrev pub record_layer : RecordFault → Layer
 record_layer (Number f) = layer.Number

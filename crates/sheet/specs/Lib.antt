@@ -1,5 +1,6 @@
 pub mod Body
 pub mod Fault
+pub mod Kind
 pub mod Number
 pub mod Numbers
 pub mod Reading

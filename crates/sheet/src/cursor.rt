@@ -1,5 +1,6 @@
 ghost use Rattle.std.specs.Prelude.{◌≡◌, min, ◌++◌, length, take, drop};
-ghost use Rattle.sheet.specs.Numbers.{left, first, exponents_of};
+ghost use Rattle.std.specs.Iterator.{YieldsFirst, item_count};
+ghost use Rattle.sheet.specs.Numbers.{left, exponents_of};
 ghost use Rattle.sheet.specs.Reading.{record_body};
 
 use crate::number::read_number;
@@ -12,37 +13,21 @@ impl<'a> Record<'a> {
         ensures { result.rest.now ≡ record_body self.entry }
     {
         match self {
-            Record::Term(body) => Numbers { rest: body },
-            Record::Close => Numbers { rest: &[] },
-            Record::Rule(body) => Numbers { rest: body },
-            Record::Check => Numbers { rest: &[] },
-            Record::Question(body) => Numbers { rest: body },
-            Record::Strike(body) => Numbers { rest: body },
+            Record::Term(body)
+            | Record::Rule(body)
+            | Record::Question(body)
+            | Record::Strike(body) => Numbers { rest: body },
+            Record::Close | Record::Check => Numbers { rest: &[] },
         }
     }
 }
 
 impl<'a> Numbers<'a> {
+    // `of` and no `From`: any bytes can be asked for their numbers, but they do not turn into them.
     pub fn of(body: &'a [u8]) -> Numbers<'a>
         ensures { result.rest.now ≡ body.now }
     {
-        let rest = body;
-        Numbers { rest }
-    }
-
-    // The next number, or none at the end.
-    pub fn number(&mut self) -> Option<u16>
-        ensures value { result ≡ first (left self.old) }
-        ensures after { left self.new ≡ drop 1 (left self.old) }
-    {
-        let rest = self.rest;
-        match read_number(65535, rest) {
-            Ok((value, size)) => {
-                self.rest = &rest[size..];
-                Some(value)
-            }
-            Err(_) => None,
-        }
+        Numbers { rest: body }
     }
 
     // The next `n` numbers, of which there are at most eight, as the exponents of a term; those that there are not count as 0.
@@ -50,10 +35,9 @@ impl<'a> Numbers<'a> {
         ensures value { result ≡ exponents_of (min n 8) (left self.old) }
         ensures after { left self.new ≡ drop (min n 8) (left self.old) }
     {
-        let mut out = [0u8; 8];
-        for k in 0..(n as usize).min(8) {
-            let x = self.number().unwrap_or(0);
-            out[k] = x.min(255) as u8;
+        let mut out = [0; 8];
+        for exponent in &mut out[..(n as usize).min(8)] {
+            *exponent = self.next().unwrap_or(0).min(255) as u8;
         }
         out
     }
@@ -64,12 +48,26 @@ impl<'a> Numbers<'a> {
         ensures out { out.new ≡ take result (left self.old) ++ drop result out.old }
         ensures after { left self.new ≡ drop result (left self.old) }
     {
-        for k in 0..out.len() {
-            match self.number() {
-                Some(x) => out[k] = x,
+        for (k, slot) in out.iter_mut().enumerate() {
+            match self.next() {
+                Some(x) => *slot = x,
                 None => return k,
             }
         }
         out.len()
+    }
+}
+
+impl Iterator for Numbers<'_> {
+    type Item = u16;
+
+    ghost next_gives = { YieldsFirst left };
+
+    ghost remaining = { item_count left };
+
+    fn next(&mut self) -> Option<u16> {
+        let (value, size) = read_number(65535, self.rest).ok()?;
+        self.rest = &self.rest[size..];
+        Some(value)
     }
 }

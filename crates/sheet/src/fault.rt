@@ -1,5 +1,5 @@
-ghost use Rattle.std.specs.Prelude.{◌≡◌};
-ghost use Rattle.sheet.specs.Fault.{cause_number, fault_number, fault_byte, fault_record, fault_layer};
+ghost use Rattle.std.specs.Prelude.{◌≡◌, ◌+◌, ◌^◌, ◌<◌};
+ghost use Rattle.sheet.specs.Fault.{fault_at, cause_number, fault_number, fault_byte, fault_record, fault_layer, layer_name};
 ghost use Rattle.sheet.specs.declared.fault.RecordFault.TheVariants as in_record;
 ghost use Rattle.sheet.specs.declared.fault.SheetFault.TheVariants as in_sheet;
 
@@ -11,6 +11,19 @@ pub enum Layer {
     Number,
     Record,
     Book,
+}
+
+impl Layer {
+    // The word for it in a report and in a listing.
+    pub fn name(self) -> &'static str
+        ensures { result.now ≡ layer_name self }
+    {
+        match self {
+            Layer::Number => "number",
+            Layer::Record => "record",
+            Layer::Book => "book",
+        }
+    }
 }
 
 // A fault of the number whose first byte stands at `byte`.
@@ -54,7 +67,59 @@ impl From<RecordFault> for SheetFault {
     }
 }
 
+// Where a record or a number stands: its first byte in the sheet, and its record from 1. 0 and no Option for the heading, since 0 is what is printed.
+// Faults are public and name the two themselves, so that a pattern shows them.
+#[derive(Clone, Copy)]
+pub(crate) struct Place {
+    pub(crate) byte: usize,
+    pub(crate) count: usize,
+}
+
+impl Place {
+    // So many bytes further on, in the same record.
+    pub(crate) fn after(self, bytes: usize) -> Place
+        requires { self.byte + bytes < 2 ^ 64 }
+        ensures byte { result.byte ≡ self.byte + bytes }
+        ensures count { result.count ≡ self.count }
+    {
+        Place {
+            byte: self.byte + bytes,
+            count: self.count,
+        }
+    }
+
+    pub(crate) fn number_fault(self, cause: NumberCause) -> NumberFault
+        ensures { result ≡ fault_at self.byte self.count cause }
+    {
+        NumberFault {
+            cause,
+            byte: self.byte,
+            record: self.count,
+        }
+    }
+
+    // This and the next are two: a variant with named fields is no function that one of them could take.
+    pub(crate) fn unknown_kind(self) -> RecordFault
+        ensures { result ≡ in_record.UnknownKind self.byte self.count }
+    {
+        RecordFault::UnknownKind {
+            byte: self.byte,
+            record: self.count,
+        }
+    }
+
+    pub(crate) fn wrong_body(self) -> RecordFault
+        ensures { result ≡ in_record.WrongBody self.byte self.count }
+    {
+        RecordFault::WrongBody {
+            byte: self.byte,
+            record: self.count,
+        }
+    }
+}
+
 impl NumberCause {
+    // A method, as it is for a whole fault.
     pub fn number(self) -> u8
         ensures { result ≡ cause_number self }
     {
@@ -67,6 +132,7 @@ impl NumberCause {
 }
 
 impl SheetFault {
+    // A method as the byte, the record and the layer are: a From<SheetFault> for u8 would be no plainer beside them.
     pub fn number(self) -> u8
         ensures { result ≡ fault_number self }
     {
@@ -81,28 +147,37 @@ impl SheetFault {
         }
     }
 
+    fn place(self) -> Place
+        ensures byte { result.byte ≡ fault_byte self }
+        ensures count { result.count ≡ fault_record self }
+    {
+        match self {
+            SheetFault::Record(RecordFault::Number(fault)) => Place {
+                byte: fault.byte,
+                count: fault.record,
+            },
+            SheetFault::Record(
+                RecordFault::UnknownKind { byte, record } | RecordFault::WrongBody { byte, record },
+            ) => Place {
+                byte,
+                count: record,
+            },
+            _ => Place { byte: 0, count: 0 },
+        }
+    }
+
     // The place of the byte that the fault was met at.
     pub fn byte(self) -> usize
         ensures { result ≡ fault_byte self }
     {
-        match self {
-            SheetFault::Record(RecordFault::Number(fault)) => fault.byte,
-            SheetFault::Record(RecordFault::UnknownKind { byte, .. }) => byte,
-            SheetFault::Record(RecordFault::WrongBody { byte, .. }) => byte,
-            _ => 0,
-        }
+        self.place().byte
     }
 
     // The record that the fault was met in, from 1, or 0 for the heading and the whole sheet.
     pub fn record(self) -> usize
         ensures { result ≡ fault_record self }
     {
-        match self {
-            SheetFault::Record(RecordFault::Number(fault)) => fault.record,
-            SheetFault::Record(RecordFault::UnknownKind { record, .. }) => record,
-            SheetFault::Record(RecordFault::WrongBody { record, .. }) => record,
-            _ => 0,
-        }
+        self.place().count
     }
 
     pub fn layer(self) -> Layer

@@ -1,5 +1,6 @@
 ghost use Rattle.std.specs.Prelude.{◌≡◌, ◌≤◌};
-ghost use Rattle.sheet.specs.Body.{kind_of, kind_number, total as total_of, limit_at, is_full, whole_after};
+ghost use Rattle.sheet.specs.Body.{kind_number, total as total_of, limit_at, is_full, whole_after};
+ghost use Rattle.sheet.specs.Kind.{named};
 
 // What a record is.
 #[derive(Clone, Copy, Debug, PartialEq)]
@@ -12,25 +13,33 @@ pub enum Kind {
     Strike,
 }
 
-impl Kind {
-    pub fn of(number: u16) -> Option<Kind>
-        ensures { result ≡ kind_of number }
-    {
+// A number that is no kind's.
+#[derive(Clone, Copy, Debug, PartialEq)]
+pub struct UnknownKind(pub u16);
+
+impl TryFrom<u16> for Kind {
+    type Error = UnknownKind;
+
+    ghost try_from_gives = { λ number r. r ≡ named number };
+
+    fn try_from(number: u16) -> Result<Kind, UnknownKind> {
         match number {
-            1 => Some(Kind::Term),
-            2 => Some(Kind::Close),
-            3 => Some(Kind::Rule),
-            4 => Some(Kind::Check),
-            5 => Some(Kind::Question),
-            6 => Some(Kind::Strike),
-            _ => None,
+            1 => Ok(Kind::Term),
+            2 => Ok(Kind::Close),
+            3 => Ok(Kind::Rule),
+            4 => Ok(Kind::Check),
+            5 => Ok(Kind::Question),
+            6 => Ok(Kind::Strike),
+            _ => Err(UnknownKind(number)),
         }
     }
+}
 
-    pub fn number(self) -> u16
-        ensures { result ≡ kind_number self }
-    {
-        match self {
+impl From<Kind> for u16 {
+    ghost from_gives = { λ kind r. r ≡ kind_number kind };
+
+    fn from(kind: Kind) -> u16 {
+        match kind {
             Kind::Term => 1,
             Kind::Close => 2,
             Kind::Rule => 3,
@@ -39,18 +48,20 @@ impl Kind {
             Kind::Strike => 6,
         }
     }
+}
+
+impl Kind {
+    // Here and below `n` comes from the heading and the kind from the record: a struct of the two would be made only to call these.
 
     // How many numbers its body holds with `n` variables, of which a question's first counts the pairs; at least so many in a rule.
     pub fn total(self, n: u16, first: u16) -> usize
         ensures { result ≡ total_of self n first }
     {
         match self {
-            Kind::Term => n as usize,
-            Kind::Close => 0,
+            Kind::Term | Kind::Strike => n as usize,
+            Kind::Close | Kind::Check => 0,
             Kind::Rule => n as usize + 1,
-            Kind::Check => 0,
             Kind::Question => first as usize * (n as usize + 1) + 1,
-            Kind::Strike => n as usize,
         }
     }
 

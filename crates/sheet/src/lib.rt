@@ -12,7 +12,7 @@ mod reading;
 mod record;
 
 pub use fault::{Layer, NumberFault, RecordFault, SheetFault};
-pub use kind::Kind;
+pub use kind::{Kind, UnknownKind};
 pub use laws::examples_stand;
 pub use number::{NumberCause, read_number};
 pub use numbers::Numbers;

@@ -29,6 +29,7 @@ fn ending(limit: u16, last: u8, value: u32, size: usize) -> Result<(u16, usize),
     }
 }
 
+// Three functions for three bytes, and no loop: each byte has limits of its own.
 fn third_byte(limit: u16, low: u32, bytes: &[u8]) -> Result<(u16, usize), NumberCause>
     requires { low < 16384 }
     ensures { result ≡ third limit low bytes.now }
@@ -61,7 +62,7 @@ fn second_byte(limit: u16, low: u32, bytes: &[u8]) -> Result<(u16, usize), Numbe
     }
 }
 
-// The number at the front of the bytes, with how many of them it takes.
+// The number at the front of the bytes, with how many of them it takes. The limit is the caller's, and belongs to no bytes.
 pub fn read_number(limit: u16, bytes: &[u8]) -> Result<(u16, usize), NumberCause>
     ensures value { result ≡ read_number limit bytes.now }
     ensures back { ReadAsWritten limit bytes.now result }

@@ -1,3 +1,5 @@
+ghost use Rattle.std.specs.Prelude.{◌≤◌, length};
+
 // A record with the bytes of its body, which are those of the sheet.
 #[derive(Clone, Copy)]
 pub enum Record<'a> {
@@ -25,4 +27,7 @@ pub struct Reader<'a> {
     pub(crate) at: usize,
     pub(crate) records: usize,
     pub(crate) variables: u16,
+    ghost counted: { records ≤ at },
+    ghost inside: { at ≤ length bytes.now },
+    ghost short: { length bytes.now ≤ 65535 },
 }

@@ -3,27 +3,12 @@ ghost use Rattle.sheet.specs.Fault.{in_record};
 ghost use Rattle.sheet.specs.Body.{number_at};
 ghost use Rattle.sheet.specs.Reading.{state, open_sheet, opened, heading, heading_number, after_number, begun, next_record, seen_next, after_record, record_kind, record_body, held};
 
-use crate::fault::{RecordFault, SheetFault};
+use crate::fault::{Place, RecordFault, SheetFault};
 use crate::kind::Kind;
 use crate::reader::{Placed, Reader, Record};
-use crate::record::{number_at, read_record};
+use crate::record::{Extent, number_at, read_record};
 
 pub const OPENING: [u8; 3] = [0x42, 0x42, 0x31];
-
-// The bytes from one place on.
-fn bytes_from(bytes: &[u8], at: usize) -> &[u8]
-    ensures { result.now ≡ drop at bytes.now }
-{
-    let from = at.min(bytes.len());
-    &bytes[from..]
-}
-
-fn heading_at(bytes: &[u8], at: usize) -> Result<(u16, usize), RecordFault>
-    ensures value { result ≡ in_record (number_at 65535 (drop at bytes.now) at 0) }
-    ensures inside { IfOk result (λ p. at + p.1 ≤ length bytes.now) }
-{
-    Ok(number_at(65535, bytes_from(bytes, at), at, 0)?)
-}
 
 fn record_of(kind: Kind, body: &[u8]) -> Record<'_>
     ensures kind { record_kind result ≡ kind }
@@ -46,17 +31,15 @@ impl<'a> Reader<'a> {
         if bytes.len() > 65535 {
             return Err(SheetFault::TooLong);
         }
-        match bytes {
-            [a, b, c, ..] if *a == OPENING[0] && *b == OPENING[1] && *c == OPENING[2] => Ok(
-                Reader {
-                    bytes,
-                    at: 3,
-                    records: 0,
-                    variables: 0,
-                },
-            ),
-            _ => Err(SheetFault::WrongOpening),
+        if !bytes.starts_with(&OPENING) {
+            return Err(SheetFault::WrongOpening);
         }
+        Ok(Reader {
+            bytes,
+            at: 3,
+            records: 0,
+            variables: 0,
+        })
     }
 
     pub fn begin(&mut self, variables: u16)
@@ -70,36 +53,34 @@ impl<'a> Reader<'a> {
         ensures value { result ≡ heading_number (state self.old) }
         ensures after { state self.new ≡ after_number (state self.old) (heading (state self.old)) }
     {
-        let at = self.at;
-        let (value, size) = heading_at(self.bytes, at)?;
-        self.at = at + size;
-        Ok((value, at))
+        let byte = self.at;
+        let rest = &self.bytes[byte..];
+        let place = Place { byte, count: 0 };
+        let (value, size) = number_at(65535, rest, place).map_err(RecordFault::Number)?;
+        self.at += size;
+        Ok((value, byte))
     }
 
-    // The next record, or none at the end of the sheet.
+    // The next record, or none at the end of the sheet. No Iterator: at a fault the reader stays, so that its faults would have no end.
     pub fn next(&mut self) -> Result<Option<Placed<'a>>, SheetFault>
         ensures value { seen_next result ≡ next_record (state self.old) }
         ensures after { state self.new ≡ after_record (state self.old) }
     {
-        let bytes = self.bytes;
-        let at = self.at;
-        if bytes.len() <= at {
+        let byte = self.at;
+        let variables = self.variables;
+        let count = self.records + 1;
+        let rest = &self.bytes[byte..];
+        if rest.is_empty() {
             return Ok(None);
         }
-        let variables = self.variables;
-        let count = self.records.min(65534) + 1;
-        let rest = bytes_from(bytes, at);
-        let extent = read_record(variables, rest, at, count)?;
-        let from = extent.from;
-        let to = extent.to;
-        self.at = at + to;
+        let Extent { kind, from, to } = read_record(variables, rest, Place { byte, count })?;
+        self.at += to;
         self.records = count;
-        let record = record_of(extent.kind, &rest[from..to]);
         Ok(Some(Placed {
-            byte: at,
+            byte,
             count,
             variables,
-            record,
+            record: record_of(kind, &rest[from..to]),
         }))
     }
 }

@@ -1,4 +1,5 @@
 // Examples of the format: sheets that read to their end, damaged ones, and records that are written.
+// The helpers answer plain numbers, 0 where there is no fault, so that a test is a line of values.
 #![tactic(auto)]
 
 #[cfg(test)]

@@ -1,12 +1,12 @@
 -- What a record that is written meets. Assumes nothing.
-use Rattle.std.proofs.Common.{◌≡◌, ℕ, ◌≤◌, Bool, true, false, cond, ◌&&◌, eqb, leb, List, length, Some, None, Ok, Err, Option, Result, sym, refl, ap, ◌∙◌, arith}
+use Rattle.std.proofs.Common.{◌≡◌, ℕ, ◌≤◌, Bool, true, false, cond, ◌&&◌, eqb, leb, List, length, Some, None, Ok, Option, sym, refl, ap, ◌∙◌, arith}
 use Rattle.std.proofs.lemmas.Bool.{leb-true, le-leb, eqb-true, cond-true, cond_both, and_parts, and_from}
 use Rattle.sheet.specs.declared.kind.Kind.{Kind}
 use Rattle.sheet.specs.declared.kind.Kind.TheVariants.{Term, Close, Rule, Check, Question, Strike}
 use Rattle.sheet.specs.Fault.{next}
 use Rattle.sheet.specs.Body.{kind_of, kind_number}
 use Rattle.sheet.specs.Record.{known}
-use Rattle.sheet.proofs.Heads.{next_ok}
+use Rattle.sheet.proofs.Heads.{next_ok, taken}
 use Rattle.sheet_write.specs.Writing.{flat, right_count, allowed, body_size, fitting, counted, accepted}
 
 pub record Accepted (n k : ℕ) (xs : List ℕ) (size : ℕ) : Type 0 where
@@ -20,10 +20,6 @@ pub record Accepted (n k : ℕ) (xs : List ℕ) (size : ℕ) : Type 0 where
   pub short : size ≤ 65520
 
 -- the way that led to an answer
-pub taken : {A E : Type 0} (b : Bool) (r : Result A E) (f : E) (x : A) → cond b r (Err f) ≡ Ok x → (b ≡ true) × (r ≡ Ok x)
-taken true r f x e = (refl, e)
-taken false r f x e = let z : ◌≡◌ {A = ℕ} 0 1 = cc in absurd (omega arith)
-
 some_taken : {A : Type 0} (b : Bool) (y x : A) → cond b (Some y) None ≡ Some x → (b ≡ true) × (y ≡ x)
 some_taken true y x e = (refl, cc e)
 some_taken false y x e = let z : ◌≡◌ {A = ℕ} 0 1 = cc in absurd (omega arith)

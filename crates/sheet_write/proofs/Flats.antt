@@ -1,7 +1,7 @@
 -- The bytes of numbers one after another, and the limits of numbers one after another. Assumes nothing.
-use Rattle.std.proofs.Common.{◌≡◌, ℕ, ◌+◌, ◌<◌, ◌≤◌, true, false, ◌&&◌, leb, List, [], ◌∷◌, ◌++◌, length, get_or, take, drop, Some, None, sym, refl, ap, ◌∙◌, append_assoc, append-nil, arith, length-append, take-append-drop}
-use Rattle.std.proofs.lemmas.List.{take_more, at_drop_more, take_all, drop_all}
-use Rattle.std.proofs.lemmas.Bool.{le-leb, lt-leb, cond-true, cond-false, and_left, and_right, and_from}
+use Rattle.std.proofs.Common.{◌≡◌, ℕ, ◌+◌, ◌<◌, ◌≤◌, ◌&&◌, leb, List, [], ◌∷◌, ◌++◌, length, get_or, take, drop, None, sym, refl, ap, ◌∙◌, append_assoc, append-nil, arith, length-append, take-append-drop}
+use Rattle.std.proofs.lemmas.List.{take_more, at_drop_more}
+use Rattle.std.proofs.lemmas.Bool.{le-leb, lt-leb, cond-false, and_right}
 use Rattle.sheet.specs.declared.kind.Kind.{Kind}
 use Rattle.sheet.specs.Number.{number_bytes}
 use Rattle.sheet.specs.Body.{limit_at}
@@ -31,24 +31,5 @@ module _ (kind : Kind) (n : ℕ) (xs : List ℕ) where
       let t : allowed kind n j (drop j xs) ≡ (leb (get_or xs j 0) (limit_at kind n j) && allowed kind n (j + 1) (drop (j + 1) xs)) = at_drop_more (allowed kind n j) xs j 0 h in
       t ∙ ap (λ b. b && allowed kind n (j + 1) (drop (j + 1) xs)) (le-leb (get_or xs j 0) (limit_at kind n j) low)
 
-  pub allowed_not : (j : ℕ) → j < length xs → limit_at kind n j < get_or xs j 0 → allowed kind n j (drop j xs) ≡ false
-  allowed_not j h high =
-      let t : allowed kind n j (drop j xs) ≡ (leb (get_or xs j 0) (limit_at kind n j) && allowed kind n (j + 1) (drop (j + 1) xs)) = at_drop_more (allowed kind n j) xs j 0 h in
-      t ∙ ap (λ b. b && allowed kind n (j + 1) (drop (j + 1) xs)) (lt-leb (get_or xs j 0) (limit_at kind n j) high)
-
-  pub size_none : allowed kind n 0 xs ≡ false → None ≡ body_size kind n xs
-  size_none e = sym (cond-false _ _ _ (and_left (allowed kind n 0 xs) (leb (length (flat xs)) 65520) e))
-
   pub size_past : 65520 < length (flat xs) → None ≡ body_size kind n xs
   size_past h = sym (cond-false _ _ _ (and_right (allowed kind n 0 xs) (leb (length (flat xs)) 65520) (lt-leb (length (flat xs)) 65520 h)))
-
-  pub size_some : (size : ℕ) → allowed kind n 0 xs ≡ true → size ≡ length (flat xs) → size ≤ 65520 → Some size ≡ body_size kind n xs
-  size_some size e same low =
-      ap Some same ∙ sym (cond-true _ _ _ (and_from (allowed kind n 0 xs) (leb (length (flat xs)) 65520) e (le-leb (length (flat xs)) 65520 (omega arith))))
-
--- all numbers were seen
-pub flat_all : (xs : List ℕ) (j : ℕ) → length xs ≤ j → flat (take j xs) ≡ flat xs
-flat_all xs j h = ap flat (take_all j xs h)
-
-pub allowed_all : (kind : Kind) (n : ℕ) (xs : List ℕ) (j : ℕ) → length xs ≤ j → allowed kind n j (drop j xs) ≡ true
-allowed_all kind n xs j h = ap (allowed kind n j) (drop_all j xs h)

@@ -1,12 +1,15 @@
 -- Bytes put into an output from one place on. Assumes nothing.
 use Rattle.std.proofs.Common.{◌≡◌, ℕ, ◌+◌, ◌≤◌, List, [], ◌++◌, length, take, drop, Ok, Result, sym, refl, ap, ◌∙◌, append_assoc, zero-add, arith, length-append}
+use Rattle.std.proofs.lemmas.Bool.{le-leb, cond-true}
 use lib.Seq.{paste}
 use Rattle.std.proofs.lemmas.List.{take_all}
 use Rattle.std.proofs.lemmas.List.Edits.{sets, sets-eq, paste-paste, length-paste}
-use Rattle.std.proofs.lemmas.Bool.{le-leb, cond-true}
 use Rattle.sheet.specs.declared.fault.RecordFault.{RecordFault}
+use Rattle.sheet.specs.Number.{number_bytes}
 use Rattle.sheet.specs.Fault.{next}
-use Rattle.sheet_write.specs.Writing.{pasted, accepted, record_bytes, write_record, with_room}
+use Rattle.sheet_write.specs.declared.writer.Writer.{Writer}
+use Rattle.sheet_write.specs.Puts.{Puts}
+use Rattle.sheet_write.specs.Writing.{flat, pasted, accepted, record_bytes, write_record, with_room}
 
 pub pasted_sets : (bs : List ℕ) (at : ℕ) (out : List ℕ) → at + length bs ≤ length out → sets out at bs ≡ pasted at bs out
 pasted_sets bs at out h = sets-eq bs out at h ∙ ap (λ ts. (take at out ++ ts) ++ drop (at + length bs) out) (sym (take_all (length bs) bs (omega arith)))
@@ -24,15 +27,25 @@ pasted_length bs out at h = length-paste out at bs (length bs) h (omega arith)
 pub pasted_none : (at : ℕ) (out : List ℕ) → at ≤ length out → out ≡ pasted at [] out
 pasted_none at out h = pasted_sets [] at out (omega arith)
 
--- three pieces from the front on
-pub put_three : (out first second third xs ys zs : List ℕ) (from body end : ℕ) → first ≡ pasted 0 xs out → from ≡ 0 + length xs → second ≡ pasted from ys first → body ≡ from + length ys → third ≡ pasted body zs second → end ≡ body + length zs → (third ≡ (xs ++ (ys ++ zs)) ++ drop (length (xs ++ (ys ++ zs))) out) × (end ≡ length (xs ++ (ys ++ zs)))
-put_three out first second third xs ys zs from body end e f g h j k =
-    let two : second ≡ pasted 0 (xs ++ ys) out = g ∙ (λ i. pasted (f i) ys (e i)) ∙ pasted_more xs ys out 0 (omega arith) in
-    let place : body ≡ 0 + length (xs ++ ys) = omega (arith, length-append xs ys) in
-    let three : third ≡ pasted 0 ((xs ++ ys) ++ zs) out = j ∙ (λ i. pasted (place i) zs (two i)) ∙ pasted_more (xs ++ ys) zs out 0 (omega arith) in (
-      three ∙ ap (λ bs. pasted 0 bs out) (append_assoc xs ys zs) ∙ pasted_front (xs ++ (ys ++ zs)) out,
-      omega (arith, length-append xs (ys ++ zs), length-append ys zs),
-    )
+-- a writer puts one piece after another
+pub puts_more : (a b d : Writer) (xs ys : List ℕ) → Puts a b xs → Puts b d ys → a.at ≤ length a.out.now → Puts a d (xs ++ ys)
+puts_more a b d xs ys p q h = record {
+  at = omega (arith, p.at, q.at, length-append xs ys);
+  out = q.out ∙ (λ i. pasted (p.at i) ys (p.out i)) ∙ pasted_more xs ys a.out.now a.at h;
+  len = q.len ∙ p.len;
+}
+
+-- what it put from the front on
+pub puts_front : (a b : Writer) (bs : List ℕ) → a.at ≡ 0 → Puts a b bs → (b.at ≡ length bs) × (b.out.now ≡ bs ++ drop (length bs) a.out.now)
+puts_front a b bs e p = (omega (arith, p.at, e), p.out ∙ ap (λ at. pasted at bs a.out.now) e ∙ pasted_front bs a.out.now)
+
+-- a record's kind, length and numbers
+pub puts_record : (a b d e : Writer) (k size : ℕ) (xs : List ℕ) → a.at ≡ 0 → Puts a b (number_bytes k) → Puts b d (number_bytes size) → Puts d e (flat xs) → (e.at ≡ length (record_bytes k size xs)) × (e.out.now ≡ record_bytes k size xs ++ drop (length (record_bytes k size xs)) a.out.now)
+puts_record a b d e k size xs front p q r =
+    let two = puts_more a b d (number_bytes k) (number_bytes size) p q (omega arith) in
+    let all = puts_front a e _ front (puts_more a d e (number_bytes k ++ number_bytes size) (flat xs) two r (omega arith)) in
+    let is : (number_bytes k ++ number_bytes size) ++ flat xs ≡ record_bytes k size xs = append_assoc (number_bytes k) (number_bytes size) (flat xs) in
+    (all.0 ∙ ap length is, all.1 ∙ ap (λ bs. bs ++ drop (length bs) a.out.now) is)
 
 pub written_fits : (n k : ℕ) (xs out : List ℕ) (size : ℕ) → Ok size ≡ accepted n k xs → length (record_bytes k size xs) ≤ length out → next (write_record n k xs) (with_room out) ≡ Ok (record_bytes k size xs)
 written_fits n k xs out size e h =
@@ -41,9 +54,3 @@ written_fits n k xs out size e h =
 
 pub written_is : (n k : ℕ) (xs : List ℕ) (size : ℕ) → Ok size ≡ accepted n k xs → write_record n k xs ≡ Ok (record_bytes k size xs)
 written_is n k xs size e = ap (λ (r : Result ℕ RecordFault). next r (λ s. Ok (record_bytes k s xs))) (sym e)
-
--- one more piece after what stands at the front
-pub put_next : (out was now xs ys : List ℕ) (at end : ℕ) → was ≡ pasted 0 xs out → at ≡ length xs → now ≡ pasted at ys was → end ≡ at + length ys → (now ≡ pasted 0 (xs ++ ys) out) × (end ≡ length (xs ++ ys))
-put_next out was now xs ys at end e f g h =
-    let place : at ≡ 0 + length xs = omega arith in
-    (g ∙ (λ i. pasted (place i) ys (e i)) ∙ pasted_more xs ys out 0 (omega arith), omega (arith, length-append xs ys))

@@ -1,5 +1,5 @@
 -- A sheet that was read is written to the same bytes. Assumes nothing.
-use Rattle.std.proofs.Common.{◌≡◌, ℕ, zero, suc, ◌+◌, ◌<◌, ◌≤◌, true, cond, ◌&&◌, eqb, ltb, List, [], ◌∷◌, ◌++◌, length, take, drop, Some, None, Ok, Err, Option, Result, sym, refl, ap, ◌∙◌, subst, ⊎_elim, arith, take-append-drop}
+use Rattle.std.proofs.Common.{◌≡◌, ℕ, zero, suc, ◌+◌, ◌<◌, ◌≤◌, true, cond, ◌&&◌, eqb, ltb, List, [], ◌∷◌, ◌++◌, length, take, drop, Some, None, Ok, Option, Result, sym, refl, ap, ◌∙◌, subst, ⊎_elim, arith, take-append-drop}
 use Rattle.std.proofs.lemmas.List.{drop-drop, drop_all}
 use Rattle.std.proofs.lemmas.Bool.{false≢true, cases_lt, eqb-true, le-leb, lt-leb, cond-true, cond-false, and_parts}
 use Rattle.sheet.specs.declared.fault.RecordFault.{RecordFault}
@@ -8,21 +8,16 @@ use Rattle.sheet.specs.declared.record.Extent.{Extent}
 use Rattle.sheet.specs.Fault.{in_sheet, next}
 use Rattle.sheet.specs.Number.{Bytes, number_bytes, read_number}
 use Rattle.sheet.specs.Reading.{State, Seen, opening, opens, open_sheet, heading, heading_number, after_number, begun, next_count, record_here, as_seen, next_record, past, after_record}
-use Rattle.sheet.proofs.Heads.{next_ok}
+use Rattle.sheet.proofs.Heads.{next_ok, taken, placed_ok, sheet_ok}
 use Rattle.sheet.proofs.Lists.{bytes_drop, taken_from}
 use Rattle.sheet_write.specs.Writing.{write_record}
 use Rattle.sheet_write.specs.Sheet.{Entry, Sheet, write_records, sheet_bytes, write_sheet, entry, more, read_all, after_heading, read_sheet}
-use Rattle.sheet_write.proofs.Accepts.{taken}
 use Rattle.sheet_write.proofs.Sheets.{record_some, then_records, then_variables, then_modulus, then_field}
-use Rattle.sheet_write.proofs.Writebacks.{passed, placed_ok, record_writes_back}
+use Rattle.sheet_write.proofs.Writebacks.{passed, record_writes_back}
 
 -- the bytes from where a reader stands
 abbrev left : State → List ℕ
 left s = drop s.at s.sheet
-
-pub sheet_ok : {A : Type 0} (r : Result A RecordFault) (x : A) → in_sheet r ≡ Ok x → r ≡ Ok x
-sheet_ok (Ok y) x h = cc
-sheet_ok (Err f) x h = let z : ◌≡◌ {A = ℕ} 0 1 = cc in absurd (omega arith)
 
 take_some : (k : ℕ) (bs : List ℕ) → 1 ≤ length (take k bs) → 1 ≤ k
 take_some zero bs h = absurd (omega arith)

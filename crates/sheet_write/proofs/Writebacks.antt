@@ -9,14 +9,14 @@ use Rattle.sheet.specs.declared.fault.SheetFault.{SheetFault}
 use Rattle.sheet.specs.Fault.{in_record, in_sheet, next}
 use Rattle.sheet.specs.Number.{Bytes, number_bytes, Reading, read_number}
 use Rattle.sheet.specs.Numbers.{listed, numbers_in, numbers_of}
-use Rattle.sheet.specs.Body.{kind_of, kind_number, total, limit_at, is_full, whole_after, number_at, at_place, check_numbers}
+use Rattle.sheet.specs.Body.{kind_of, kind_number, total, limit_at, is_full, whole_after, number_at, check_numbers}
 use Rattle.sheet.specs.Record.{known, inside, read_head, read_record, body_of}
 use Rattle.sheet.proofs.Bodies.{onward}
-use Rattle.sheet.proofs.Heads.{next_ok, record_parts}
+use Rattle.sheet.proofs.Heads.{next_ok, record_parts, taken, placed_ok}
 use Rattle.sheet.proofs.Lists.{bytes_drop, taken_reads, taken_from}
 use Rattle.sheet_write.specs.Writing.{flat, allowed, record_bytes}
 use Rattle.sheet_write.specs.Laws.{WritesBack}
-use Rattle.sheet_write.proofs.Accepts.{Accepted, accepted_from, taken, known_kind, kind_is, kind_back}
+use Rattle.sheet_write.proofs.Accepts.{Accepted, accepted_from, known_kind, kind_is, kind_back}
 use Rattle.sheet_write.proofs.Counts.{Counted, right_from_counted}
 use Rattle.sheet_write.proofs.Readbacks.{limit_low}
 
@@ -24,10 +24,6 @@ use Rattle.sheet_write.proofs.Readbacks.{limit_low}
 pub passed : {A E : Type 0} (b : Bool) (f : E) (r : Result A E) (x : A) → cond b (Err f) r ≡ Ok x → (b ≡ false) × (r ≡ Ok x)
 passed true f r x e = let z : ◌≡◌ {A = ℕ} 0 1 = cc in absurd (omega arith)
 passed false f r x e = (refl, e)
-
-pub placed_ok : (byte count : ℕ) (r : Reading) (p : ℕ × ℕ) → in_record (at_place byte count r) ≡ Ok p → r ≡ Ok p
-placed_ok byte count (Ok q) p e = cc
-placed_ok byte count (Err cause) p e = let z : ◌≡◌ {A = ℕ} 0 1 = cc in absurd (omega arith)
 
 -- numbers that make up bytes, each counted and allowed
 pub record MadeOf (kind : Kind) (n j whole : ℕ) (bytes xs : List ℕ) : Type 0 where

@@ -1,3 +1,4 @@
 pub mod Laws
+pub mod Puts
 pub mod Sheet
 pub mod Writing

@@ -13,39 +13,21 @@ use sheet::{Extent, Numbers, SheetFault, read_front};
 fn same_numbers(body: &[u8], numbers: &[u16]) -> bool
     ensures { result ≡ bytes_eq (numbers_of body.now) numbers.now }
 {
-    let mut come = Numbers::of(body);
-    for j in 0..numbers.len() {
-        match come.number() {
-            Some(x) => {
-                if x != numbers[j] {
-                    return false;
-                }
-            }
-            None => return false,
-        }
-    }
-    match come.number() {
-        Some(_) => false,
-        None => true,
-    }
+    Numbers::of(body).eq(numbers.iter().copied())
 }
 
-// Writes a record, reads it back, and answers whether it is the same.
+// Writes a record, reads it back, and answers whether it is the same. The kind comes as any number, as it does to `write_record`.
 pub fn round(n: u16, kind: u16, numbers: &[u16], out: &mut [u8]) -> Result<bool, SheetFault>
     ensures value { result ≡ read_again (answer (next (write_record n kind numbers.now) (with_room out.old))) }
     ensures after { out.new ≡ held (next (write_record n kind numbers.now) (with_room out.old)) out.old }
 {
     let size = write_record(n, kind, numbers, out)?;
-    let extent = read_front(n, out)?;
-    let from = extent.from;
-    let to = extent.to;
-    if extent.kind.number() != kind {
-        return Ok(false);
-    }
-    if to != size {
-        return Ok(false);
-    }
-    Ok(same_numbers(&out[from..to], numbers))
+    let Extent {
+        kind: found,
+        from,
+        to,
+    } = read_front(n, out)?;
+    Ok(u16::from(found) == kind && to == size && same_numbers(&out[from..to], numbers))
 }
 
 // The record at the front of the bytes. With 1 to 8 variables, its kind and numbers are written to the bytes that it was read from.

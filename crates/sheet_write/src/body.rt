@@ -1,50 +1,59 @@
-ghost use Rattle.std.specs.Prelude.{◌≡◌, ◌+◌, ◌≤◌, length};
-ghost use Rattle.sheet_write.specs.Writing.{flat, right_count, body_size, pasted};
+ghost use Rattle.std.specs.Prelude.{◌≡◌, IfOk};
+ghost use Rattle.sheet_write.specs.Writing.{BodySize, right_count, body_size, counted};
 
-use crate::number::{number_size, put_number};
-use sheet::Kind;
+use crate::number::number_size;
+use sheet::{Kind, NumberCause, NumberFault, RecordFault};
 
-// Whether a body of the kind holds so many numbers.
-pub(crate) fn right_count(kind: Kind, n: u16, numbers: &[u16]) -> bool
-    ensures { result ≡ right_count kind n numbers.now }
-{
-    let first = match numbers {
-        [] => 0,
-        [first, ..] => *first,
-    };
-    let total = kind.total(n, first);
-    match kind {
-        Kind::Rule => total <= numbers.len(),
-        _ => numbers.len() == total,
-    }
+// The numbers of a body of a kind, with `n` variables.
+#[derive(Clone, Copy)]
+pub(crate) struct Body<'a> {
+    pub(crate) kind: Kind,
+    pub(crate) n: u16,
+    pub(crate) numbers: &'a [u16],
 }
 
-// The length of the body, where each number is allowed and there are at most 65,520 bytes.
-pub(crate) fn body_size(kind: Kind, n: u16, numbers: &[u16]) -> Option<usize>
-    ensures { result ≡ body_size kind n numbers.now }
-{
-    let mut size: usize = 0;
-    for j in 0..numbers.len() {
-        if numbers[j] > kind.limit(n, j) {
-            return None;
-        }
-        size += number_size(numbers[j]);
-        if size > 65520 {
-            return None;
+impl Body<'_> {
+    // Whether a body of the kind holds so many numbers.
+    fn is_right_count(self) -> bool
+        ensures { result ≡ right_count self.entry.kind self.entry.n self.entry.numbers.now }
+    {
+        let first = self.numbers.first().copied().unwrap_or(0);
+        let total = self.kind.total(self.n, first);
+        match self.kind {
+            Kind::Rule => total <= self.numbers.len(),
+            _ => self.numbers.len() == total,
         }
     }
-    Some(size)
-}
 
-// Puts numbers at a place one after another, and answers the place after them.
-pub(crate) fn put_numbers(out: &mut [u8], at: usize, numbers: &[u16]) -> usize
-    requires { at + length (flat numbers.now) ≤ length out.old }
-    ensures value { result ≡ at + length (flat numbers.now) }
-    ensures after { out.new ≡ pasted at (flat numbers.now) out.old }
-{
-    let mut to = at;
-    for j in 0..numbers.len() {
-        to = put_number(out, to, numbers[j]);
+    // Its length, where each number is allowed and there are at most 65,520 bytes.
+    fn size(self) -> Option<usize>
+        ensures { result ≡ body_size self.entry.kind self.entry.n self.entry.numbers.now }
+    {
+        let mut size = 0;
+        for (j, &number) in self.numbers.iter().enumerate() {
+            if number > self.kind.limit(self.n, j) {
+                return None;
+            }
+            size += number_size(number);
+            if size > 65520 {
+                return None;
+            }
+        }
+        Some(size)
     }
-    to
+
+    // Its length, where it can be written. A body that is to be written stands nowhere yet, so byte and record of its faults are 0.
+    pub(crate) fn counted_size(self) -> Result<usize, RecordFault>
+        ensures value { result ≡ counted self.entry.kind self.entry.n self.entry.numbers.now }
+        ensures size { IfOk result (λ size. BodySize size self.entry.numbers.now) }
+    {
+        if !self.is_right_count() {
+            return Err(RecordFault::WrongBody { byte: 0, record: 0 });
+        }
+        self.size().ok_or(RecordFault::Number(NumberFault {
+            cause: NumberCause::TooLarge,
+            byte: 0,
+            record: 0,
+        }))
+    }
 }

@@ -1,20 +1,12 @@
-ghost use Rattle.std.specs.Prelude.{◌≡◌, ◌≤◌, length};
-ghost use Rattle.sheet.specs.Reading.{opening};
-ghost use Rattle.sheet_write.specs.Writing.{heading_bytes, pasted, answer, held, with_room};
+ghost use Rattle.std.specs.Prelude.{◌≡◌};
+ghost use Rattle.sheet_write.specs.Writing.{heading_bytes, answer, held, with_room};
 
-use crate::number::{number_size, put_number};
+use crate::number::number_size;
+use crate::writer::Writer;
 use sheet::{OPENING, RecordFault, SheetFault};
 
-fn put_opening(out: &mut [u8])
-    requires { 3 ≤ length out.old }
-    ensures { out.new ≡ pasted 0 opening out.old }
-{
-    out[0] = OPENING[0];
-    out[1] = OPENING[1];
-    out[2] = OPENING[2];
-}
-
 // Writes the opening and the three numbers of a heading at the front of the output, and answers how many bytes they take.
+// Three plain numbers: what names no field is written too, so that a reader can be tried on it.
 pub fn write_heading(
     field: u16,
     modulus: u16,
@@ -26,10 +18,12 @@ pub fn write_heading(
 {
     let total = 3 + number_size(field) + number_size(modulus) + number_size(variables);
     if total > out.len() {
-        return Err(SheetFault::Record(RecordFault::ShortOutput));
+        return Err(RecordFault::ShortOutput.into());
     }
-    put_opening(out);
-    let second = put_number(out, 3, field);
-    let third = put_number(out, second, modulus);
-    Ok(put_number(out, third, variables))
+    let mut writer = Writer { out, at: 0 };
+    writer.bytes(&OPENING);
+    writer.number(field);
+    writer.number(modulus);
+    writer.number(variables);
+    Ok(writer.at)
 }

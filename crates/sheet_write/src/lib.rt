@@ -7,6 +7,7 @@ mod heading;
 mod laws;
 mod number;
 mod record;
+mod writer;
 
 pub use again::{read_record, round};
 pub use heading::write_heading;

@@ -1,7 +1,8 @@
-ghost use Rattle.std.specs.Prelude.{◌≡◌, ℕ, ◌+◌, ◌≤◌, length, IfOk, Ok};
+ghost use Rattle.std.specs.Prelude.{◌≡◌, ℕ, ◌≤◌, length, IfOk, Ok};
 ghost use Rattle.sheet.specs.Number.{number_bytes, read_number};
-ghost use Rattle.sheet_write.specs.Writing.{pasted, answer, held, with_room};
+ghost use Rattle.sheet_write.specs.Writing.{answer, held, with_room};
 
+use crate::writer::Writer;
 use sheet::{RecordFault, SheetFault};
 
 // How many bytes a number takes.
@@ -15,27 +16,6 @@ pub fn number_size(value: u16) -> usize
     }
 }
 
-// Puts a number at a place, and answers the place after it.
-pub(crate) fn put_number(out: &mut [u8], at: usize, value: u16) -> usize
-    requires { at + length (number_bytes value) ≤ length out.old }
-    ensures value { result ≡ at + length (number_bytes value) }
-    ensures after { out.new ≡ pasted at (number_bytes value) out.old }
-{
-    if value < 128 {
-        out[at] = value as u8;
-        at + 1
-    } else if value < 16384 {
-        out[at] = (128 + value % 128) as u8;
-        out[at + 1] = (value / 128) as u8;
-        at + 2
-    } else {
-        out[at] = (128 + value % 128) as u8;
-        out[at + 1] = (128 + value / 128 % 128) as u8;
-        out[at + 2] = (value / 16384) as u8;
-        at + 3
-    }
-}
-
 // Puts a number at the front of the output.
 pub fn write_number(value: u16, out: &mut [u8]) -> Result<usize, SheetFault>
     ensures value { result ≡ answer (with_room out.old (number_bytes value)) }
@@ -43,7 +23,9 @@ pub fn write_number(value: u16, out: &mut [u8]) -> Result<usize, SheetFault>
     ensures reads { IfOk result (λ size. (limit : ℕ) → value ≤ limit → limit ≤ 65535 → read_number limit out.new ≡ Ok (value, size)) }
 {
     if number_size(value) > out.len() {
-        return Err(SheetFault::Record(RecordFault::ShortOutput));
+        return Err(RecordFault::ShortOutput.into());
     }
-    Ok(put_number(out, 0, value))
+    let mut writer = Writer { out, at: 0 };
+    writer.number(value);
+    Ok(writer.at)
 }

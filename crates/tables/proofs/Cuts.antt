@@ -1,47 +1,62 @@
--- Where a list is cut at the first byte m that it holds, or at its end. Assumes nothing.
-use Rattle.std.proofs.Common.{◌≡◌, ℕ, zero, suc, ◌<◌, ◌≤◌, List, [], ◌∷◌, length, get_or, take, drop, refl, ap, arith}
-use Rattle.std.proofs.lemmas.Bool.{eq-eqb, ne_eqb}
+-- What `cut` gives, in the words of a request and of a text. Assumes nothing.
+use Rattle.std.proofs.Common.{◌≡◌, ℕ, suc, ◌+◌, ◌<◌, ◌≤◌, Bool, true, false, cond, not, List, [], ◌∷◌, length, take, drop, refl, ap, sym, ◌∙◌, ◌==◌, arith, add-one, add_comm}
+use Rattle.std.specs.List.{position_or_len, before_first, after_first}
 use Rattle.tables.specs.Request.{first_word, after_word}
 use Rattle.tables.specs.Text.{extend, lines}
 
--- the first m in a list stands at a place, which is the end where the list holds none
-pub data Cut (m : ℕ) : List ℕ → ℕ → Type 0 where
-  ends : Cut m [] 0
-  here : {x : ℕ} {xs : List ℕ} → x ≡ m → Cut m (x ∷ xs) 0
-  later : {x : ℕ} {xs : List ℕ} {i : ℕ} → (x ≡ m → ⊥) → Cut m xs i → Cut m (x ∷ xs) (suc i)
+-- a cut, one byte further
+before_step : (m b : ℕ) (bs : List ℕ) → before_first (λ x. x == m) (b ∷ bs) ≡ cond (b == m) [] (b ∷ before_first (λ x. x == m) bs)
+before_step m b bs = go (b == m) (position_or_len (λ x. x == m) bs)
+  where
+    go : (t : Bool) (n : ℕ) → take (cond (not t) (1 + n) 0) (b ∷ bs) ≡ cond t [] (b ∷ take n bs)
+    go true n = refl
+    go false n = ap (λ k. take k (b ∷ bs)) (add_comm 1 n ∙ add-one n)
 
--- a search that passed no m and stopped at one, or at the end, has found the cut
-pub cut : (m : ℕ) (xs : List ℕ) (i : ℕ) → i ≤ length xs → ((k : ℕ) → k < i → get_or xs k 0 ≡ m → ⊥) → (i < length xs → get_or xs i 0 ≡ m) → Cut m xs i
-cut m [] zero within none found = ends
-cut m [] (suc i) within none found = absurd (omega arith)
-cut m (x ∷ xs) zero within none found = here (found (omega arith))
-cut m (x ∷ xs) (suc i) within none found =
-    later (none 0 (omega arith)) (cut m xs i (omega arith) (λ k h. none (suc k) (omega arith)) (λ h. found (omega arith)))
+after_step : (m b : ℕ) (bs : List ℕ) → after_first (λ x. x == m) (b ∷ bs) ≡ cond (b == m) bs (after_first (λ x. x == m) bs)
+after_step m b bs = go (b == m) (position_or_len (λ x. x == m) bs)
+  where
+    go : (t : Bool) (n : ℕ) → drop (cond (not t) (1 + n) 0 + 1) (b ∷ bs) ≡ cond t bs (drop (n + 1) bs)
+    go true n = refl
+    go false n = let more : 1 + n + 1 ≡ suc (n + 1) = omega arith in ap (λ k. drop k (b ∷ bs)) more
 
--- a search that passed no m and came to the end has found it too
-pub cut_end : (m : ℕ) (xs : List ℕ) (i : ℕ) → length xs ≤ i → ((k : ℕ) → k < i → get_or xs k 0 ≡ m → ⊥) → Cut m xs (length xs)
-cut_end m xs i past none = cut m xs (length xs) (omega arith) (λ k h. none k (omega arith)) (λ h. absurd (omega arith))
+-- the word before the first space, and what follows it
+pub word_before : (xs : List ℕ) → before_first (λ b. b == 32) xs ≡ first_word xs
+word_before [] = refl
+word_before (b ∷ bs) = before_step 32 b bs ∙ ap (λ ys. cond (b == 32) [] (b ∷ ys)) (word_before bs)
 
--- the word before the cut at a space
-pub word_before : {xs : List ℕ} {i : ℕ} → Cut 32 xs i → take i xs ≡ first_word xs
-word_before ends = refl
-word_before (here {x} e) = rw (eq-eqb x 32 e)
-word_before (later {x} ne c) = rw (ne_eqb x 32 ne) (ap (λ ys. x ∷ ys) (word_before c))
+pub word_after : (xs : List ℕ) → after_first (λ b. b == 32) xs ≡ after_word xs
+word_after [] = refl
+word_after (b ∷ bs) = after_step 32 b bs ∙ ap (λ ys. cond (b == 32) bs ys) (word_after bs)
 
--- and what follows that space
-pub rest_after : {xs : List ℕ} {i : ℕ} → Cut 32 xs i → drop (suc i) xs ≡ after_word xs
-rest_after ends = refl
-rest_after (here {x} e) = rw (eq-eqb x 32 e)
-rest_after (later {x} ne c) = rw (ne_eqb x 32 ne) (rest_after c)
+-- under one more byte
+longer_line : (b : ℕ) (xs : List ℕ) → extend b (lines xs) ≡ (b ∷ before_first (λ x. x == 10) xs) ∷ lines (after_first (λ x. x == 10) xs)
+longer_line b [] = refl
+longer_line b (x ∷ xs) = go (x == 10) (longer_line x xs) ∙ (λ i. (b ∷ sym (before_step 10 x xs) i) ∷ lines (sym (after_step 10 x xs) i))
+  where
+    go : (t : Bool) → extend x (lines xs) ≡ (x ∷ before_first (λ y. y == 10) xs) ∷ lines (after_first (λ y. y == 10) xs)
+        → extend b (cond t ([] ∷ lines xs) (extend x (lines xs))) ≡ (b ∷ cond t [] (x ∷ before_first (λ y. y == 10) xs)) ∷ lines (cond t xs (after_first (λ y. y == 10) xs))
+    go true h = refl
+    go false h = ap (extend b) h
 
--- a line end cuts off the first line, here under one more byte
-longer_line : {xs : List ℕ} {i : ℕ} (b : ℕ) → Cut 10 xs i → extend b (lines xs) ≡ (b ∷ take i xs) ∷ lines (drop (suc i) xs)
-longer_line b ends = refl
-longer_line b (here {x} e) = rw (eq-eqb x 10 e)
-longer_line b (later {x} ne c) = rw (ne_eqb x 10 ne) (ap (extend b) (longer_line x c))
+-- the first line of a text, and the lines after it
+pub first_line : (xs : List ℕ) → 0 < length xs → lines xs ≡ before_first (λ x. x == 10) xs ∷ lines (after_first (λ x. x == 10) xs)
+first_line [] some = absurd (omega arith)
+first_line (b ∷ bs) some = go (b == 10) (longer_line b bs) ∙ (λ i. sym (before_step 10 b bs) i ∷ lines (sym (after_step 10 b bs) i))
+  where
+    go : (t : Bool) → extend b (lines bs) ≡ (b ∷ before_first (λ x. x == 10) bs) ∷ lines (after_first (λ x. x == 10) bs)
+        → cond t ([] ∷ lines bs) (extend b (lines bs)) ≡ cond t [] (b ∷ before_first (λ x. x == 10) bs) ∷ lines (cond t bs (after_first (λ x. x == 10) bs))
+    go true h = refl
+    go false h = h
 
--- the line before the cut at a line end, and the lines after it
-pub line_before : {xs : List ℕ} {i : ℕ} → Cut 10 xs i → 1 ≤ length xs → lines xs ≡ take i xs ∷ lines (drop (suc i) xs)
-line_before ends some = absurd (omega arith)
-line_before (here {x} e) some = rw (eq-eqb x 10 e)
-line_before (later {x} ne c) some = rw (ne_eqb x 10 ne) (longer_line x c)
+-- there are no more lines than bytes
+lines_few_under : (b : ℕ) (ls : List (List ℕ)) (n : ℕ) → length ls ≤ n → length (extend b ls) ≤ n + 1
+lines_few_under b [] n h = omega arith
+lines_few_under b (l ∷ ls) n h = omega arith
+
+pub lines_few : (xs : List ℕ) → length (lines xs) ≤ length xs
+lines_few [] = omega arith
+lines_few (b ∷ bs) = go (b == 10) (lines_few bs)
+  where
+    go : (t : Bool) → length (lines bs) ≤ length bs → length (cond t ([] ∷ lines bs) (extend b (lines bs))) ≤ suc (length bs)
+    go true h = omega arith
+    go false h = omega (arith, lines_few_under b (lines bs) (length bs) h)

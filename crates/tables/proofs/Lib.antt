@@ -1,3 +1,2 @@
-pub mod Pushes
 pub mod Cuts
 pub mod Readings

@@ -1,10 +1,12 @@
 -- The whole text that an input of many lines is answered with. Assumes nothing.
-use Rattle.std.specs.Prelude.{ℕ, suc, cond, List, [], ◌∷◌, ◌++◌, codes, decimal, ◌==◌}
+use Rattle.std.specs.Prelude.{ℕ, suc, cond, List, [], ◌∷◌, ◌++◌, Ok, Err, Result, codes, decimal, ◌==◌}
 use Rattle.field.specs.Supplied.{among, primes, modulo, binary_sizes, binary}
 use Rattle.field.specs.Refusal.{number_of}
 use Rattle.field.specs.declared.refusal.Refusal.TheVariants.{UnknownField}
 use Rattle.tables.specs.declared.request.Request.{Request}
-use Rattle.tables.specs.declared.request.Request.TheVariants.{PrimeField, BinaryField, UnknownKind, NoPair}
+use Rattle.tables.specs.declared.request.Request.TheVariants.{PrimeField, BinaryField}
+use Rattle.tables.specs.declared.request.RequestError.{RequestError}
+use Rattle.tables.specs.declared.request.RequestError.TheVariants.{UnknownKind, NoPair}
 use Rattle.tables.specs.Page.{page}
 use Rattle.tables.specs.Request.{request}
 
@@ -16,11 +18,11 @@ refused = codes "refused " ++ (decimal (number_of UnknownField) ++ codes ": no s
 abbrev pub no_pair : ℕ → List ℕ
 no_pair n = codes "line " ++ (decimal n ++ codes ": expected a field kind and its number, as in `prime 5`\n")
 
-abbrev pub answered : ℕ → Request → List ℕ
-answered n (PrimeField p) = cond (among primes p) (page (modulo p)) refused
-answered n (BinaryField k) = cond (among binary_sizes k) (page (binary k)) refused
-answered n UnknownKind = refused
-answered n NoPair = no_pair n
+abbrev pub answered : ℕ → Result Request RequestError → List ℕ
+answered n (Ok (PrimeField p)) = cond (among primes p) (page (modulo p)) refused
+answered n (Ok (BinaryField k)) = cond (among binary_sizes k) (page (binary k)) refused
+answered n (Err UnknownKind) = refused
+answered n (Err NoPair) = no_pair n
 
 -- each line is repeated above its answer, and an empty line ends the answer
 abbrev pub answer : ℕ → List ℕ → List ℕ

@@ -1,8 +1,9 @@
-ghost use Rattle.std.specs.Prelude.{◌≡◌, ◌<◌, [], ◌∷◌, ◌++◌, IfOk, OnOk};
-ghost use Rattle.tables.specs.Page.{digit as digit_of, cell, in_turn, apply as applied, entry as entry_of, sign as sign_of, label as label_of, line as line_of, table as table_of, page as page_of};
+ghost use Rattle.std.specs.Prelude.{◌≡◌, ◌<◌, Some, IfOk};
+ghost use Rattle.tables.specs.Page.{digit as digit_of, cell, apply as applied, entry as entry_of, label as label_of, line as line_of, table as table_of, page as page_of};
 
 use field::Field;
 use std::alloc::{AllocError, Global};
+use std::fmt;
 
 #[derive(Clone, Copy)]
 pub enum Operation {
@@ -44,93 +45,107 @@ impl Line {
     }
 }
 
-// The digit of `n` in the place of `unit`, or a blank before its first digit.
-fn digit(n: u16, unit: u16) -> u8
+// The digit of `n` in the place of `unit`, or a blank before its first digit. Every code has a text of four columns; `{n:>4}` is that text only below 1,000.
+fn digit(n: u16, unit: u16) -> char
     requires { 0 < unit }
     ensures { result ≡ digit_of n unit }
 {
     if n < unit {
-        b' '
+        ' '
     } else {
-        b'0' + (n / unit % 10) as u8
+        char::from(b'0' + (n / unit % 10) as u8)
     }
 }
 
-fn push_cell(out: &mut Vec<u8>, code: Option<u16>) -> Result<(), AllocError>
-    ensures { OnOk result (out.new.items ≡ out.old.items ++ cell code) }
-{
-    match code {
-        Some(n) => {
-            let last = b'0' + (n % 10) as u8;
-            out.extend_from_slice(&[b' ', digit(n, 100), digit(n, 10), last])
+// A code in its column, or a dash where there is none.
+#[derive(Clone, Copy)]
+struct Cell(Option<u16>);
+
+impl fmt::Display for Cell {
+    ghost output = { λ c. Some (cell c.0) };
+
+    fn fmt<W: fmt::Write>(&self, f: &mut fmt::Formatter<W>) -> fmt::Result {
+        match self.0 {
+            Some(n) => {
+                let last = char::from(b'0' + (n % 10) as u8);
+                write!(f, " {}{}{last}", digit(n, 100), digit(n, 10))
+            }
+            None => write!(f, "   -"),
         }
-        None => out.extend_from_slice(b"   -"),
     }
 }
 
-fn push_label(out: &mut Vec<u8>, line: Line) -> Result<(), AllocError>
-    ensures { OnOk result (out.new.items ≡ out.old.items ++ label_of line) }
-{
-    match line {
-        Line::Heads(Operation::Sum) => out.extend_from_slice(b"   +"),
-        Line::Heads(Operation::Product) => out.extend_from_slice(b"   *"),
-        Line::Row(_, a) => push_cell(out, Some(a)),
-        Line::Negatives => out.extend_from_slice(b" neg"),
-        Line::Inverses => out.extend_from_slice(b" inv"),
+impl fmt::Display for Line {
+    ghost output = { λ l. Some (label_of l) };
+
+    fn fmt<W: fmt::Write>(&self, f: &mut fmt::Formatter<W>) -> fmt::Result {
+        match *self {
+            Line::Heads(Operation::Sum) => write!(f, "   +"),
+            Line::Heads(Operation::Product) => write!(f, "   *"),
+            Line::Row(_, a) => write!(f, "{}", Cell(Some(a))),
+            Line::Negatives => write!(f, " neg"),
+            Line::Inverses => write!(f, " inv"),
+        }
     }
 }
 
-fn push_entries<F: Field>(out: &mut Vec<u8>, f: &F, line: Line) -> Result<(), AllocError>
-    ensures { OnOk result (out.new.items ≡ out.old.items ++ in_turn (λ b. cell (entry_of line (F.Field.meaning f.now) b)) (F.Field.meaning f.now).order) }
-{
-    for b in 0..f.order() {
-        push_cell(out, line.entry(f, b))?;
+// A line with what stands in it over a field.
+#[derive(Drop)]
+struct Filled<'a, F>(Line, &'a F);
+
+impl<F: Field> fmt::Display for Filled<'_, F> {
+    ghost output = { λ l. Some (line_of l.0 (F.Field.meaning l.1.now)) };
+
+    fn fmt<W: fmt::Write>(&self, f: &mut fmt::Formatter<W>) -> fmt::Result {
+        let line = self.0;
+        let field = self.1;
+        write!(f, "{line}")?;
+        for b in 0..field.order() {
+            write!(f, "{}", Cell(line.entry(field, b)))?;
+        }
+        writeln!(f)
     }
-    Ok(())
 }
 
-fn push_line<F: Field>(out: &mut Vec<u8>, f: &F, line: Line) -> Result<(), AllocError>
-    ensures { OnOk result (out.new.items ≡ out.old.items ++ line_of line (F.Field.meaning f.now)) }
-{
-    push_label(out, line)?;
-    push_entries(out, f, line)?;
-    out.push(b'\n')?;
-    Ok(())
-}
+#[derive(Drop)]
+struct Table<'a, F>(Operation, &'a F);
 
-fn push_rows<F: Field>(out: &mut Vec<u8>, f: &F, operation: Operation) -> Result<(), AllocError>
-    ensures { OnOk result (out.new.items ≡ out.old.items ++ in_turn (λ a. line_of (Line.Row operation a) (F.Field.meaning f.now)) (F.Field.meaning f.now).order) }
-{
-    for a in 0..f.order() {
-        push_line(out, f, Line::Row(operation, a))?;
+impl<F: Field> fmt::Display for Table<'_, F> {
+    ghost output = { λ t. Some (table_of t.0 (F.Field.meaning t.1.now)) };
+
+    fn fmt<W: fmt::Write>(&self, f: &mut fmt::Formatter<W>) -> fmt::Result {
+        let operation = self.0;
+        let field = self.1;
+        write!(f, "{}", Filled(Line::Heads(operation), field))?;
+        for a in 0..field.order() {
+            write!(f, "{}", Filled(Line::Row(operation, a), field))?;
+        }
+        Ok(())
     }
-    Ok(())
 }
 
-fn push_table<F: Field>(out: &mut Vec<u8>, f: &F, operation: Operation) -> Result<(), AllocError>
-    ensures { OnOk result (out.new.items ≡ out.old.items ++ table_of operation (F.Field.meaning f.now)) }
-{
-    push_line(out, f, Line::Heads(operation))?;
-    push_rows(out, f, operation)
-}
+// The whole page of a field.
+#[derive(Drop)]
+pub(crate) struct PageOf<'a, F>(pub(crate) &'a F);
 
-pub(crate) fn push_page<F: Field>(out: &mut Vec<u8>, f: &F) -> Result<(), AllocError>
-    ensures { OnOk result (out.new.items ≡ out.old.items ++ page_of (F.Field.meaning f.now)) }
-{
-    out.extend_from_slice(b"order")?;
-    push_cell(out, Some(f.order()))?;
-    out.push(b'\n')?;
-    push_table(out, f, Operation::Sum)?;
-    push_table(out, f, Operation::Product)?;
-    push_line(out, f, Line::Negatives)?;
-    push_line(out, f, Line::Inverses)
+impl<F: Field> fmt::Display for PageOf<'_, F> {
+    ghost output = { λ p. Some (page_of (F.Field.meaning p.0.now)) };
+
+    fn fmt<W: fmt::Write>(&self, f: &mut fmt::Formatter<W>) -> fmt::Result {
+        let field = self.0;
+        let order = Cell(Some(field.order()));
+        let sums = Table(Operation::Sum, field);
+        let products = Table(Operation::Product, field);
+        let negatives = Filled(Line::Negatives, field);
+        let inverses = Filled(Line::Inverses, field);
+        write!(f, "order{order}\n{sums}{products}{negatives}{inverses}")
+    }
 }
 
 // The page of any lawful field.
 pub fn page<F: Field>(heap: Global, f: &F) -> Result<Vec<u8>, AllocError>
     ensures { IfOk result (λ v. v.items ≡ page_of (F.Field.meaning f.now)) }
 {
-    let mut out = Vec::new(heap);
-    push_page(&mut out, f)?;
-    Ok(out)
+    let text = format!(in heap; "{}", PageOf(f))?;
+    Ok(text.into_bytes())
 }

@@ -1,70 +1,56 @@
-ghost use Rattle.std.specs.Prelude.{◌≡◌, ◌+◌, ◌≤◌, length, take, drop};
-ghost use Rattle.tables.specs.Request.{decimal_number, digits_on, of_kind as kind_of, with_number, first_word, after_word, request};
+ghost use Rattle.std.specs.Prelude.{◌≡◌};
+ghost use Rattle.tables.specs.Request.{decimal_number, of_kind as kind_of, request};
 
-// What a line of input asks for.
-#[derive(Clone, Copy, Debug, PartialEq)]
+use crate::cut::cut;
+
+// The field that a line of input asks for.
+#[derive(Clone, Copy)]
 pub enum Request {
     PrimeField(u16),
     BinaryField(u16),
+}
+
+// Why a line asks for none.
+#[derive(Clone, Copy)]
+pub enum RequestError {
     UnknownKind,
     NoPair,
 }
 
-// The number of a line of decimal digits; one past 65,535 counts as 65,535.
+// The number of a line of decimal digits. `parse` refuses one past 65,535, which counts as 65,535 here.
 fn number(digits: &[u8]) -> Option<u16>
     ensures { result ≡ decimal_number digits.now }
 {
     if digits.is_empty() {
         return None;
     }
-    let mut n: u32 = 0;
-    for b in digits {
-        match *b {
-            b'0'..=b'9' => n = (10 * n + (*b - b'0') as u32).min(65535),
-            _ => return None,
-        }
-    }
-    Some(n as u16)
+    digits.iter().try_fold(0u16, |n, b| match *b {
+        b'0'..=b'9' => Some(n.saturating_mul(10).saturating_add((*b - b'0') as u16)),
+        _ => None,
+    })
 }
 
-// Where the first space stands, or the length where there is none.
-fn space(line: &[u8]) -> usize
-    ensures within { result ≤ length line.now }
-    ensures word { take result line.now ≡ first_word line.now }
-    ensures rest { drop (result + 1) line.now ≡ after_word line.now }
-{
-    for (i, b) in line.iter().enumerate() {
-        if *b == b' ' {
-            return i;
-        }
-    }
-    line.len()
-}
-
-fn of_kind(word: &[u8], n: u16) -> Request
+fn of_kind(word: &[u8], n: u16) -> Result<Request, RequestError>
     ensures { result ≡ kind_of word.now n }
 {
-    if word == b"prime".as_slice() {
-        Request::PrimeField(n)
-    } else if word == b"binary".as_slice() {
-        Request::BinaryField(n)
-    } else {
-        Request::UnknownKind
+    match word {
+        b"prime" => Ok(Request::PrimeField(n)),
+        b"binary" => Ok(Request::BinaryField(n)),
+        _ => Err(RequestError::UnknownKind),
     }
 }
 
-impl Request {
-    pub fn of(line: &[u8]) -> Request
-        ensures { result ≡ request line.now }
-    {
-        let end = space(line);
-        let word = &line[0..end];
-        if word.is_empty() || end == line.len() {
-            return Request::NoPair;
+impl<'a> TryFrom<&'a [u8]> for Request {
+    type Error = RequestError;
+
+    ghost try_from_gives = { λ line r. r ≡ request line.now };
+
+    fn try_from(line: &'a [u8]) -> Result<Request, RequestError> {
+        let (word, digits) = cut(line, b' ');
+        if word.is_empty() {
+            return Err(RequestError::NoPair);
         }
-        match number(&line[end + 1..]) {
-            Some(n) => of_kind(word, n),
-            None => Request::NoPair,
-        }
+        let n = number(digits).ok_or(RequestError::NoPair)?;
+        of_kind(word, n)
     }
 }

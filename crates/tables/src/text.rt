@@ -1,76 +1,95 @@
-ghost use Rattle.std.specs.Prelude.{◌≡◌, ◌+◌, ◌≤◌, [], ◌∷◌, ◌++◌, length, take, drop, IfOk, OnOk};
+ghost use Rattle.std.specs.Prelude.{◌≡◌, [], ◌∷◌, ◌++◌, IfOk, IfSome, OnOk, MatchResult};
+ghost use Rattle.std.specs.Iterator.{YieldsFirstRef, item_count};
+ghost use Rattle.tables.specs.Page.{page};
 ghost use Rattle.tables.specs.Text.{refused as refused_text, no_pair, answered as answered_text, answer as answer_text, lines, answers as answers_text};
 
-use crate::pages::push_page;
-use crate::request::Request;
-use field::{Binary, Prime, Refusal};
+use crate::cut::cut;
+use crate::pages::PageOf;
+use crate::request::{Request, RequestError};
+use field::{Binary, Field, Prime, Refusal};
 use std::alloc::{AllocError, Global};
+use std::fmt;
 
-fn push_refused(out: &mut Vec<u8>, heap: Global, refusal: Refusal) -> Result<(), AllocError>
-    ensures { OnOk result (out.new.items ≡ out.old.items ++ refused_text) }
+// `out` is an argument here and below, as an output is anywhere: it belongs to no line.
+fn push_text<D: fmt::Display + Drop>(out: &mut Vec<u8>, value: D) -> Result<(), AllocError>
+    ensures { OnOk result (IfSome (D.output value) (λ bs. out.new.items ≡ out.old.items ++ bs)) }
 {
-    let number = refusal.number();
-    let text = format!(in heap; "refused {number}: no such field\n")?;
+    let text = format!(in *out.allocator(); "{value}")?;
     out.extend_from_slice(text.as_bytes())
 }
 
-fn push_no_pair(out: &mut Vec<u8>, heap: Global, number: usize) -> Result<(), AllocError>
+fn push_refused(out: &mut Vec<u8>, refusal: Refusal) -> Result<(), AllocError>
+    ensures { OnOk result (out.new.items ≡ out.old.items ++ refused_text) }
+{
+    push_text(
+        out,
+        format_args!("refused {}: no such field\n", refusal.number()),
+    )
+}
+
+fn push_no_pair(out: &mut Vec<u8>, number: usize) -> Result<(), AllocError>
     ensures { OnOk result (out.new.items ≡ out.old.items ++ no_pair number) }
 {
-    let text = format!(in heap;
-        "line {number}: expected a field kind and its number, as in `prime 5`\n"
-    )?;
-    out.extend_from_slice(text.as_bytes())
+    push_text(
+        out,
+        format_args!("line {number}: expected a field kind and its number, as in `prime 5`\n"),
+    )
+}
+
+// The page of a field, where it was made.
+fn push_made<F: Field + Drop>(out: &mut Vec<u8>, made: Result<F, Refusal>) -> Result<(), AllocError>
+    ensures { OnOk result (MatchResult made (λ f. out.new.items ≡ out.old.items ++ page (F.Field.meaning f)) (λ _. out.new.items ≡ out.old.items ++ refused_text)) }
+{
+    match made {
+        Ok(f) => push_text(out, PageOf(&f)),
+        Err(refusal) => push_refused(out, refusal),
+    }
 }
 
 fn push_answered(
     out: &mut Vec<u8>,
-    heap: Global,
     number: usize,
-    request: Request,
+    request: Result<Request, RequestError>,
 ) -> Result<(), AllocError>
     ensures { OnOk result (out.new.items ≡ out.old.items ++ answered_text number request) }
 {
     match request {
-        Request::PrimeField(p) => match Prime::new(p) {
-            Ok(f) => push_page(out, &f),
-            Err(refusal) => push_refused(out, heap, refusal),
-        },
-        Request::BinaryField(k) => match Binary::new(k) {
-            Ok(f) => push_page(out, &f),
-            Err(refusal) => push_refused(out, heap, refusal),
-        },
-        Request::UnknownKind => push_refused(out, heap, Refusal::UnknownField),
-        Request::NoPair => push_no_pair(out, heap, number),
+        Ok(Request::PrimeField(p)) => push_made(out, Prime::new(p)),
+        Ok(Request::BinaryField(k)) => push_made(out, Binary::new(k)),
+        Err(RequestError::UnknownKind) => push_refused(out, Refusal::UnknownField),
+        Err(RequestError::NoPair) => push_no_pair(out, number),
     }
 }
 
-fn push_answer(
-    out: &mut Vec<u8>,
-    heap: Global,
-    number: usize,
-    line: &[u8],
-) -> Result<(), AllocError>
+fn push_answer(out: &mut Vec<u8>, number: usize, line: &[u8]) -> Result<(), AllocError>
     ensures { OnOk result (out.new.items ≡ out.old.items ++ answer_text number line.now) }
 {
     out.extend_from_slice(line)?;
     out.push(b'\n')?;
-    push_answered(out, heap, number, Request::of(line))?;
+    push_answered(out, number, Request::try_from(line))?;
     out.push(b'\n')?;
     Ok(())
 }
 
-// Where the first line ends: at its line end, or at the end of the text.
-fn line_end(text: &[u8]) -> usize
-    ensures within { result ≤ length text.now }
-    ensures first { 1 ≤ length text.now → lines text.now ≡ take result text.now ∷ lines (drop (result + 1) text.now) }
-{
-    for (i, b) in text.iter().enumerate() {
-        if *b == b'\n' {
-            return i;
+// The lines of a text; the last may lack its line end.
+#[derive(Drop)]
+struct Lines<'a>(&'a [u8]);
+
+impl<'a> Iterator for Lines<'a> {
+    type Item = &'a [u8];
+
+    ghost next_gives = { YieldsFirstRef (λ s. lines s.0.now) };
+
+    ghost remaining = { item_count (λ s. lines s.0.now) };
+
+    fn next(&mut self) -> Option<&'a [u8]> {
+        if self.0.is_empty() {
+            return None;
         }
+        let (line, others) = cut(self.0, b'\n');
+        self.0 = others;
+        Some(line)
     }
-    text.len()
 }
 
 // The answers to all lines of the input, in order.
@@ -78,17 +97,8 @@ pub fn answers(heap: Global, input: &[u8]) -> Result<Vec<u8>, AllocError>
     ensures { IfOk result (λ v. v.items ≡ answers_text 1 (lines input.now)) }
 {
     let mut out = Vec::new(heap);
-    let mut rest = input;
-    let mut number: usize = 0;
-    while !rest.is_empty() {
-        number += 1;
-        let end = line_end(rest);
-        push_answer(&mut out, heap, number, &rest[0..end])?;
-        rest = if end < rest.len() {
-            &rest[end + 1..]
-        } else {
-            &[]
-        };
+    for (before, line) in Lines(input).enumerate() {
+        push_answer(&mut out, before + 1, line)?;
     }
     Ok(out)
 }

@@ -1,5 +1,7 @@
 -- The first variable of a term, and one more of a variable. Assumes nothing.
-use Rattle.std.proofs.Common.{◌≡◌, ℕ, zero, suc, ◌+◌, ◌-◌, ◌<◌, min, [], ◌∷◌, length, get_or, set, Some, None, Option, sym, refl, ap, ◌∙◌, subst, add-zero, zero-add, arith}
+use Rattle.std.proofs.Common.{◌≡◌, ℕ, zero, suc, ◌+◌, ◌-◌, ◌<◌, ◌≤◌, min, [], ◌∷◌, length, get_or, set, Some, None, Option, ◌⊎◌, ⊎_elim, sym, refl, ap, ◌∙◌, subst, add-zero, zero-add, arith}
+use Rattle.std.proofs.lemmas.List.{set_past}
+use Rattle.std.proofs.lemmas.Bool.{cases_lt}
 use Rattle.algebra.specs.Term.{Term, times, degree, word_from, word}
 use Rattle.term.specs.Letters.{shifted, first_variable, raised}
 
@@ -69,3 +71,15 @@ pub raised_times : (i : ℕ) (t : Term) → i < length t → get_or t i 0 < 255 
 raised_times i [] l h = absurd (omega arith)
 raised_times zero (e ∷ t) l h = let room : min (e + 1) 255 ≡ suc e = omega arith in ap (λ (x : ℕ). x ∷ t) room
 raised_times (suc i) (e ∷ t) l h = ap (λ (u : Term). e ∷ u) (raised_times i t (omega arith) h)
+
+times_past : (i : ℕ) (t : Term) → length t ≤ i → t ≡ times i t
+times_past i [] l = refl
+times_past zero (e ∷ t) l = absurd (omega arith)
+times_past (suc i) (e ∷ t) l = ap (λ (u : Term). e ∷ u) (times_past i t (omega arith))
+
+-- the same at any place, since past the end both leave the term
+pub raised_product : (i : ℕ) (t : Term) → (length t ≤ i) ⊎ (get_or t i 0 < 255) → raised i t ≡ times i t
+raised_product i t = ⊎_elim past (λ h. ⊎_elim (λ l. raised_times i t l h) past (cases_lt i (length t)))
+  where
+    past : length t ≤ i → raised i t ≡ times i t
+    past l = set_past t i _ l ∙ times_past i t l

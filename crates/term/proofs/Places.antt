@@ -1,40 +1,90 @@
--- The first place that passes a test. Assumes nothing.
-use Rattle.std.proofs.Common.{◌≡◌, ℕ, zero, suc, ◌+◌, ◌<◌, ◌≤◌, Bool, true, false, cond, List, [], ◌∷◌, length, get_or, sym, refl, ap, ◌∙◌, add-one, arith}
-use Rattle.std.specs.List.{AllWithin}
-use Rattle.std.proofs.lemmas.List.Elements.{AllWithin-none, AllWithin-more, at_read}
-use Rattle.std.proofs.lemmas.Bool.{cond-true, cond-false}
-use Rattle.algebra.specs.Term.{Term, next_place, same, place}
-use Rattle.term.specs.Search.{first_place}
+-- The searches of this crate in the library's words. Assumes nothing.
+use Rattle.std.proofs.Common.{◌≡◌, ℕ, zero, suc, ◌+◌, ◌-◌, Bool, true, false, cond, not, ◌||◌, ◌&&◌, eqb, List, [], ◌∷◌, get_or, set, drop, Some, None, Option, sym, refl, ap, ◌∙◌, add-one, arith}
+use Rattle.std.specs.List.{list_any, list_all, position, position_from, range_with_len, sum_by}
+use Rattle.std.specs.Option.{option_map}
+use Rattle.std.proofs.lemmas.Iterator.Adapters.{position_from-zero}
+use Rattle.std.proofs.lemmas.List.Quantifiers.{position-Some}
+use Rattle.std.proofs.lemmas.List.Sums.{sum_by_from}
+use Rattle.std.proofs.lemmas.Bool.{both_ways, cond-true, eqb-true, ne_eqb, not-false, not_from_false}
+use Rattle.algebra.specs.Term.{Term, next_place, same, has, place, times, degree, zero_past}
+use Rattle.algebra.specs.Border.{multiples_from, multiples}
+use Rattle.term.specs.Search.{first_place, found}
+use Rattle.term.specs.Letters.{shifted, first_variable}
+use Rattle.term.proofs.Letters.{variable_found}
+use Rattle.term.proofs.Exponents.{has_append}
 
--- no element before place k passes
-abbrev pub PassedOver : {X : Type 0} → (X → Bool) → List X → ℕ → Type 0
-PassedOver f xs k = AllWithin (λ x. f x ≡ false) xs 0 k
+pub has_any : (t : Term) (ts : List Term) → list_any (same t) ts ≡ has t ts
+has_any t [] = refl
+has_any t (u ∷ us) = ap (λ (b : Bool). same t u || b) (has_any t us)
 
-later : {X : Type 0} (f : X → Bool) (x : X) (xs : List X) (k : ℕ) → PassedOver f (x ∷ xs) (suc k) → PassedOver f xs k
-later f x xs k h j d l u = h (suc j) d (omega arith) (omega arith)
+pub joins_any : (t s : Term) (i n : ℕ) → list_any (λ (j : ℕ). same t (times j s)) (range_with_len i n) ≡ has t (multiples_from i n s)
+joins_any t s i zero = refl
+joins_any t s i (suc n) =
+    ap (λ (b : Bool). same t (times i s) || b)
+    (ap (λ (k : ℕ). list_any (λ (j : ℕ). same t (times j s)) (range_with_len k n)) (add-one i) ∙ joins_any t s (suc i) n)
 
-pub none_before : {X : Type 0} (f : X → Bool) (xs : List X) → PassedOver f xs 0
-none_before f xs = AllWithin-none (λ x. f x ≡ false) xs 0
+pub joined_any : (t : Term) (n : ℕ) (ts : List Term) → list_any (λ (s : Term). has t (multiples_from 0 n s)) ts ≡ has t (multiples n ts)
+joined_any t n [] = refl
+joined_any t n (s ∷ ts) =
+    ap (λ (b : Bool). has t (multiples_from 0 n s) || b) (joined_any t n ts) ∙ sym (has_append t (multiples_from 0 n s) (multiples n ts))
 
-pub one_more : {X : Type 0} (f : X → Bool) (xs : List X) (k : ℕ) (x : X) → k < length xs → x ≡ get_or xs k x → PassedOver f xs k → false ≡ f x → PassedOver f xs (k + 1)
-one_more f xs k x l r h e = AllWithin-more (λ y. f y ≡ false) xs 0 k h (at_read xs (λ y. f y ≡ false) k x l r (sym e))
+pub zero_past_all : (n : ℕ) (t : Term) → list_all (λ (e : ℕ). eqb e 0) (drop n t) ≡ zero_past n t
+zero_past_all zero [] = refl
+zero_past_all (suc n) [] = refl
+zero_past_all zero (e ∷ t) = ap (λ (b : Bool). eqb e 0 && b) (zero_past_all zero t)
+zero_past_all (suc n) (e ∷ t) = zero_past_all n t
 
-found : {X : Type 0} (f : X → Bool) (xs : List X) (k : ℕ) (d : X) → k < length xs → PassedOver f xs k → f (get_or xs k d) ≡ true → suc k ≡ first_place f xs
-found f [] k d l h t = absurd (omega arith)
-found f (x ∷ xs) zero d l h t = sym (cond-true (f x) 1 _ t)
-found f (x ∷ xs) (suc k) d l h t =
-    ap next_place (found f xs k d (omega arith) (later f x xs k h) t) ∙ sym (cond-false (f x) 1 _ (h 0 d (omega arith) (omega arith)))
+-- where a search with a first element at place i ends, from its place counted from 1
+abbrev placed : ℕ → ℕ → Option ℕ
+placed i zero = None
+placed i (suc k) = Some (i + k)
 
-pub first_found : {X : Type 0} (f : X → Bool) (xs : List X) (k : ℕ) (x : X) → k < length xs → x ≡ get_or xs k x → PassedOver f xs k → true ≡ f x → k + 1 ≡ first_place f xs
-first_found f xs k x l r h e = add-one k ∙ found f xs k x l h (ap f (sym r) ∙ sym e)
+placed_next : (i k : ℕ) → placed (i + 1) k ≡ placed i (next_place k)
+placed_next i zero = refl
+placed_next i (suc k) = ap Some (omega arith)
 
-pub first_absent : {X : Type 0} (f : X → Bool) (xs : List X) (k : ℕ) → length xs ≤ k → PassedOver f xs k → 0 ≡ first_place f xs
-first_absent f [] k l h = refl
-first_absent f (x ∷ xs) zero l h = absurd (omega arith)
-first_absent f (x ∷ xs) (suc k) l h =
-    ap next_place (first_absent f xs k (omega arith) (later f x xs k h)) ∙ sym (cond-false (f x) 1 _ (h 0 x (omega arith) (omega arith)))
+position_placed : {X : Type 0} (f : X → Bool) (i : ℕ) (xs : List X) → position_from f i xs ≡ placed i (first_place f xs)
+position_placed f i [] = refl
+position_placed f i (x ∷ xs) = chosen (f x) (position_placed f (i + 1) xs ∙ placed_next i (first_place f xs))
+  where
+    chosen : (b : Bool) → position_from f (i + 1) xs ≡ placed i (next_place (first_place f xs)) → cond b (Some i) (position_from f (i + 1) xs) ≡ placed i (cond b 1 (next_place (first_place f xs)))
+    chosen true e = ap Some (omega arith)
+    chosen false e = e
+
+placed_found : (k : ℕ) → option_map (λ j. j + 1) (placed 0 k) ≡ found k
+placed_found zero = refl
+placed_found (suc k) = ap Some (omega arith)
+
+-- the library's position, counted from 1
+pub first_position : {X : Type 0} (f : X → Bool) (xs : List X) → option_map (λ j. j + 1) (position f xs) ≡ found (first_place f xs)
+first_position f xs = ap (option_map (λ j. j + 1)) (position_from-zero f xs ∙ position_placed f 0 xs) ∙ placed_found (first_place f xs)
 
 -- the place of a term is the first that is the same
 pub place_first : (t : Term) (ts : List Term) → place t ts ≡ first_place (same t) ts
 place_first t [] = refl
 place_first t (u ∷ us) = ap (λ (k : ℕ). cond (same t u) 1 (next_place k)) (place_first t us)
+
+pub place_position : (t : Term) (ts : List Term) → option_map (λ j. j + 1) (position (same t) ts) ≡ found (place t ts)
+place_position t ts = first_position (same t) ts ∙ ap found (sym (place_first t ts))
+
+abbrev pub nonzero : ℕ → Bool
+nonzero e = not (eqb e 0)
+
+pub variable_at : (t : Term) (k : ℕ) → position nonzero t ≡ Some k → Some (k, set t k (get_or t k 0 - 1)) ≡ first_variable t
+variable_at t k e =
+    let p = position-Some nonzero t k 0 e in
+    variable_found t k p.0 (λ j l. eqb-true (get_or t j 0) 0 (not-false _ (p.2 j l))) (λ z. both_ways (nonzero (get_or t k 0)) (ap nonzero z) p.1)
+
+none_from : (i : ℕ) (t : Term) → position_from nonzero i t ≡ None → None ≡ first_variable t
+none_from i [] e = refl
+none_from i (zero ∷ t) e = ap (shifted 0) (none_from (i + 1) t e)
+none_from i (suc k ∷ t) e =
+    let there : Some i ≡ None = sym (cond-true (nonzero (suc k)) (Some i) _ (not_from_false _ (ne_eqb (suc k) 0 (λ p. absurd (omega arith))))) ∙ e in
+    let z : ◌≡◌ {A = ℕ} 0 1 = cc in absurd (omega arith)
+
+pub no_variable : (t : Term) → position nonzero t ≡ None → None ≡ first_variable t
+no_variable t e = none_from 0 t (sym (position_from-zero nonzero t) ∙ e)
+
+pub degree_sum : (t : Term) → sum_by (λ e. e) t ≡ degree t
+degree_sum [] = refl
+degree_sum (e ∷ t) = sum_by_from (λ k. k) (0 + e) t ∙ (let d = degree_sum t in omega arith)

@@ -1,5 +1,5 @@
-// The calls that answer: check, form, cofactors and table.
-ghost use Rattle.std.specs.Prelude.{◌≡◌, ◌-◌, [], length};
+// The calls that answer: check, form, cofactors and table. Each takes the slices that it writes one by one, as its callers lend them.
+ghost use Rattle.std.specs.Prelude.{◌≡◌, ◌-◌, true, [], length};
 ghost use Rattle.field.specs.Arithmetic.{ring};
 ghost use Rattle.algebra.specs.Clash.{first_clash};
 ghost use Rattle.algebra.specs.Walk.{normal_form, cofactors as cofactor_entries, all_zero};
@@ -7,9 +7,9 @@ ghost use Rattle.book.specs.Judge.{judge_check, judge_form, judge_cofactors, jud
 ghost use Rattle.book.specs.Ledger.{system};
 ghost use Rattle.book.specs.Effects.{checked, clash_row, clash_entries, verdict, written, yes_no, table_rows};
 ghost use Rattle.book.specs.Promise.{CheckMeans, Formed, CofactorsMean};
-ghost use Rattle.book.specs.Kept.{ledger, terms_of};
+ghost use Rattle.book.specs.Kept.{ledger, ready, terms_of};
 
-use crate::book::Book;
+use crate::book::{Book, Complete};
 use crate::phase::Phase;
 use crate::refusal::Refusal;
 use crate::verdict::Verdict;
@@ -18,6 +18,17 @@ use field::Field;
 use row::{clear, is_zero};
 
 impl<F: Field> Book<F> {
+    fn complete(&self) -> Complete<'_, F>
+        requires { ready self.now.contents ≡ true }
+        ensures field { result.field.now ≡ self.now.field }
+        ensures contents { result.contents.now ≡ self.now.contents }
+    {
+        Complete {
+            field: &self.field,
+            contents: &self.contents,
+        }
+    }
+
     // Decides whether the rules are consistent. At the first clash it writes the row MaMb(t) − MbMa(t) and the entries that add up to it.
     pub fn check(&mut self, row: &mut [u16], slots: &mut [Entry]) -> Result<Verdict, Refusal>
         ensures answer { result ≡ granted (judge_check (ledger self.old.contents) row.old slots.old) (verdict (ring (F.Field.meaning self.old.field)) (system (ledger self.old.contents)) (first_clash (ring (F.Field.meaning self.old.field)) (system (ledger self.old.contents)))) }
@@ -28,14 +39,14 @@ impl<F: Field> Book<F> {
         ensures meaning { CheckMeans (ring (F.Field.meaning self.old.field)) (system (ledger self.old.contents)) result row.new slots.new }
     {
         self.judge_check(row, slots)?;
-        match self.first_clash() {
+        match self.complete().first_clash() {
             None => {
                 clear(row);
                 self.contents.phase = Phase::Sound;
                 Ok(Verdict::Consistent)
             }
             Some(clash) => {
-                let entries = self.write_clash(clash, row, slots);
+                let entries = self.complete().write_clash(clash, row, slots);
                 self.contents.phase = Phase::Clash;
                 Ok(Verdict::Clashes {
                     term: clash.term + 1,
@@ -54,11 +65,12 @@ impl<F: Field> Book<F> {
         ensures meaning { Formed (ring (F.Field.meaning self.now.field)) (system (ledger self.now.contents)) p.now result row.new }
     {
         self.judge_form(p, row)?;
-        self.write_form(p, row, &mut []);
+        self.complete().write_form(p, row, &mut []);
         Ok(is_zero(row))
     }
 
     // The same, and the entries that account for the difference; answers their number, and 1 for yes or 0 for no.
+    // A pair of plain numbers: programs take the count and the yes or no as they are.
     pub fn cofactors(
         &self,
         p: &[(u16, Term)],
@@ -71,7 +83,7 @@ impl<F: Field> Book<F> {
         ensures meaning { CofactorsMean (ring (F.Field.meaning self.now.field)) (system (ledger self.now.contents)) p.now result row.new slots.new }
     {
         self.judge_cofactors(p, row, slots)?;
-        let count = self.write_form(p, row, slots);
+        let count = self.complete().write_form(p, row, slots);
         Ok((count, if is_zero(row) { 1 } else { 0 }))
     }
 
@@ -81,7 +93,7 @@ impl<F: Field> Book<F> {
         ensures table { table.new ≡ on_grant (judge_table (ledger self.now.contents) i table.old) (table_rows (ring (F.Field.meaning self.now.field)) (system (ledger self.now.contents)) (i - 1) (terms_of self.now.contents)) table.old }
     {
         self.judge_table(i, table)?;
-        self.write_table(i as usize - 1, table);
+        self.complete().write_table(i as usize - 1, table);
         Ok(())
     }
 }

@@ -5,12 +5,11 @@ ghost use Rattle.book.specs.Effects.{laid, with_term, closed};
 ghost use Rattle.book.specs.Kept.{ledger};
 
 use crate::book::Book;
-use crate::contents::{Basis, Border, Contents, Rules};
+use crate::contents::{Connected, Contents};
 use crate::phase::{Event, Phase};
 use crate::refusal::Refusal;
 use algebra::Term;
 use field::Field;
-use row::Lead;
 
 impl<F: Field> Book<F> {
     // A new book over a field: open, with one variable and no terms.
@@ -20,23 +19,7 @@ impl<F: Field> Book<F> {
     {
         Book {
             field,
-            contents: Contents {
-                phase: Phase::Open,
-                basis: Basis {
-                    variables: 1,
-                    size: 0,
-                    terms: [[0; 8]; 32],
-                },
-                border: Border {
-                    size: 0,
-                    terms: [[0; 8]; 256],
-                    leads: [[Lead::Inside(0); 32]; 8],
-                },
-                rules: Rules {
-                    given: [false; 256],
-                    rows: [[0; 32]; 256],
-                },
-            },
+            contents: Contents::new(),
         }
     }
 
@@ -45,7 +28,7 @@ impl<F: Field> Book<F> {
         ensures value { result ≡ length (ledger self.now.contents).terms }
         ensures few { result ≤ 32 }
     {
-        self.contents.basis.len()
+        self.contents.basis.terms.len()
     }
 
     // What a call does depends on the phase and the call together.
@@ -74,8 +57,8 @@ impl<F: Field> Book<F> {
             return Err(Refusal::VariablesOutOfRange);
         }
         self.contents.basis.variables = variables as usize;
-        self.contents.basis.size = 0;
-        self.contents.border.size = 0;
+        self.contents.basis.terms.clear();
+        self.contents.border.terms.clear();
         self.contents.phase = Phase::Open;
         Ok(())
     }
@@ -94,9 +77,7 @@ impl<F: Field> Book<F> {
         ensures field { self.new.field ≡ self.old.field }
     {
         self.judge_term(&t)?;
-        let size = self.contents.basis.size;
-        self.contents.basis.terms[size] = t;
-        self.contents.basis.size = size + 1;
+        self.contents.basis.terms.push(t);
         Ok(())
     }
 
@@ -104,7 +85,7 @@ impl<F: Field> Book<F> {
         ensures { result ≡ granted (judge_close (ledger self.now.contents)) tt }
     {
         self.admit(Event::Close)?;
-        if self.contents.basis.list().is_empty() {
+        if self.contents.basis.terms.as_slice().is_empty() {
             return Err(Refusal::NoTerms);
         }
         Ok(())
@@ -117,9 +98,12 @@ impl<F: Field> Book<F> {
         ensures field { self.new.field ≡ self.old.field }
     {
         self.judge_close()?;
-        self.contents.border.lay(&self.contents.basis);
+        let set = Connected {
+            basis: &self.contents.basis,
+        };
+        self.contents.border.lay(&set);
         self.contents.rules.clear();
-        let count = self.contents.border.count();
+        let count = self.contents.border.terms.len();
         self.contents.phase = Phase::Closed;
         Ok(count)
     }

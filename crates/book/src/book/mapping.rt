@@ -1,20 +1,30 @@
-// The maps of the variables on rows of a closed book that lacks no rule.
-ghost use Rattle.std.specs.Prelude.{◌≡◌, ◌<◌, true, [], length, slice_index_or};
+// The maps of the variables on rows of a closed book that lacks no rule. A row for one call is an array on the stack, cut to the size of S.
+ghost use Rattle.std.specs.Prelude.{◌≡◌, ◌<◌, [], length, slice_index_or};
 ghost use Rattle.field.specs.Arithmetic.{ring};
 ghost use Rattle.algebra.specs.Walk.{unit as unit_row, mapped};
 ghost use Rattle.algebra.specs.Clash.{commutator as commutator_row};
 ghost use Rattle.book.specs.Ledger.{system};
-ghost use Rattle.book.specs.Kept.{ledger, ready, terms_of};
+ghost use Rattle.book.specs.Kept.{ledger, terms_of};
 
-use crate::book::Book;
+use crate::book::Complete;
 use field::Field;
-use row::{advance, clear, subtract};
+use row::{Maps, clear, subtract};
 
-impl<F: Field> Book<F> {
+impl<F: Field> Complete<'_, F> {
+    pub(crate) fn maps(&self) -> Maps<'_, F>
+        ensures field { result.field.now ≡ self.now.field.now }
+        ensures rows { result.rows.now ≡ self.now.contents.now.rules.rows }
+    {
+        Maps {
+            field: self.field,
+            rows: &self.contents.rules.rows,
+        }
+    }
+
     // Writes the row with 1 at term `j` of S, counted from 0, and 0 elsewhere.
     pub(crate) fn unit(&self, j: usize, row: &mut [u16])
-        requires { (ready self.now.contents ≡ true) × ((j < self.now.contents.basis.size) × (length row.old ≡ self.now.contents.basis.size)) }
-        ensures { row.new ≡ unit_row (terms_of self.now.contents) (slice_index_or (terms_of self.now.contents) j []) }
+        requires { (j < length (terms_of self.now.contents.now)) × (length row.old ≡ length (terms_of self.now.contents.now)) }
+        ensures { row.new ≡ unit_row (terms_of self.now.contents.now) (slice_index_or (terms_of self.now.contents.now) j []) }
     {
         clear(row);
         row[j] = 1;
@@ -22,26 +32,26 @@ impl<F: Field> Book<F> {
 
     // Maps a row by variable `i`, counted from 0.
     pub(crate) fn map(&self, i: usize, row: &mut [u16])
-        requires { (ready self.now.contents ≡ true) × ((i < self.now.contents.basis.variables) × (length row.old ≡ self.now.contents.basis.size)) }
-        ensures { row.new ≡ mapped (ring (F.Field.meaning self.now.field)) (system (ledger self.now.contents)) i row.old }
+        requires { (i < self.now.contents.now.basis.variables) × (length row.old ≡ length (terms_of self.now.contents.now)) }
+        ensures { row.new ≡ mapped (ring (F.Field.meaning self.now.field.now)) (system (ledger self.now.contents.now)) i row.old }
     {
-        let leads = &self.contents.border.leads[i];
-        advance(&self.field, &self.contents.rules.rows, leads, row);
+        let columns = &self.contents.border.leads.columns;
+        self.maps().advance(&columns[i], row);
     }
 
     // Writes MaMb(t) − MbMa(t) for term `j` of S.
     pub(crate) fn commutator(&self, a: usize, b: usize, j: usize, row: &mut [u16])
-        requires { (ready self.now.contents ≡ true) × ((a < self.now.contents.basis.variables) × ((b < self.now.contents.basis.variables) × ((j < self.now.contents.basis.size) × (length row.old ≡ self.now.contents.basis.size)))) }
-        ensures { row.new ≡ commutator_row (ring (F.Field.meaning self.now.field)) (system (ledger self.now.contents)) a b (slice_index_or (terms_of self.now.contents) j []) }
+        requires { (a < self.now.contents.now.basis.variables) × ((b < self.now.contents.now.basis.variables) × ((j < length (terms_of self.now.contents.now)) × (length row.old ≡ length (terms_of self.now.contents.now)))) }
+        ensures { row.new ≡ commutator_row (ring (F.Field.meaning self.now.field.now)) (system (ledger self.now.contents.now)) a b (slice_index_or (terms_of self.now.contents.now) j []) }
     {
         self.unit(j, row);
         self.map(b, row);
         self.map(a, row);
         let mut other = [0u16; 32];
-        let other = &mut other[0..self.contents.basis.size];
+        let other = &mut other[0..self.contents.basis.terms.len()];
         self.unit(j, other);
         self.map(a, other);
         self.map(b, other);
-        subtract(&self.field, row, other);
+        subtract(self.field, row, other);
     }
 }

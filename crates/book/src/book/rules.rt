@@ -17,8 +17,10 @@ fn kept_row<F: Field>(f: &F, row: &[u16], inverse: u16) -> [u16; 32]
     ensures long { length result ≡ 32 }
 {
     let mut codes = [0u16; 32];
-    for (j, c) in row.iter().enumerate() {
-        codes[j] = f.product(*c, inverse);
+    let kept = &mut codes[..row.len()];
+    kept.copy_from_slice(row);
+    for code in kept.iter_mut() {
+        *code = f.product(*code, inverse);
     }
     codes
 }
@@ -33,8 +35,7 @@ impl<F: Field> Book<F> {
         let place = self.judge_rule(&e, k, row)?;
         let inverse = self.field.inverse(k).unwrap_or(0);
         let codes = kept_row(&self.field, row, inverse);
-        self.contents.rules.rows[place - 1] = codes;
-        self.contents.rules.given[place - 1] = true;
+        self.contents.rules.rows[place - 1] = Some(codes);
         self.contents.phase = Phase::Closed; // no verdict outlives a replaced rule
         Ok(())
     }
@@ -46,7 +47,7 @@ impl<F: Field> Book<F> {
         ensures field { self.new.field ≡ self.old.field }
     {
         let place = self.judge_strike(&e)?;
-        self.contents.rules.given[place - 1] = false;
+        self.contents.rules.rows[place - 1] = None;
         self.contents.phase = Phase::Closed; // nor a struck one
         Ok(())
     }

@@ -67,6 +67,7 @@ impl Field for Binary {
         let order = self.order();
         let a = read_code(order, a);
         let b = read_code(order, b);
+        // Written out, since k is at most 4: a loop would carry two codes, the sum so far and the shifted one, and be no plainer.
         let at = self.by_t(a);
         let att = self.by_t(at);
         let attt = self.by_t(att);

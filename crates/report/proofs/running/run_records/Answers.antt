@@ -3,9 +3,9 @@ use Rattle.std.proofs.lemmas.Result.{err_from_is_err_and}
 use Rattle.book.specs.Kept.{ledger}
 use Rattle.sheet.specs.declared.reader.Placed.{Placed}
 use Rattle.sheet.specs.Reading.{state, seen, seen_next}
+use Rattle.sheet.proofs.Progress.{progress}
 use Rattle.report.specs.declared.stop.Stop.{Stop}
 use Rattle.report.specs.Running.{items, left, lines, texts, Ends}
-use Rattle.report.proofs.Items.{progress}
 use Rattle.report.proofs.Walking.{goes_on, ends, ends_at_fault, ends_at_record}
 use Rattle.report.proofs.running.run_records.Goals as goal
 

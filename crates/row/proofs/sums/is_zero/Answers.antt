@@ -1,10 +1,11 @@
-use Rattle.std.proofs.Common.{◌∙◌, arith}
-use Rattle.term.proofs.Exponents.{zeros_past, nonzero_past}
-use Rattle.row.proofs.Adding.{all_zero_past}
+use Rattle.std.proofs.Common.{◌∙◌, rules, eqb}
+use Rattle.std.proofs.lemmas.Iterator.{YieldsList-from_slice}
+use Rattle.std.proofs.lemmas.Iterator.Search.{all_from_yields_List}
+use borrow.Author.Tests.{tests}
+use Rattle.row.proofs.Adding.{all_zero_all}
 use Rattle.row.proofs.sums.is_zero.Goals as goal
 
-pub returns-then-c-ne0 : goal.returns-then-c-ne0
-returns-then-c-ne0 c = nonzero_past 0 c.args.row.now c.loop-c.c-index (omega arith) (omega arith) c.if-c-ne0.true ∙ all_zero_past c.args.row.now
-
 pub returns : goal.returns
-returns c = zeros_past 0 c.args.row.now (λ j l u. c.loop-c.invariant j (omega arith)) ∙ all_zero_past c.args.row.now
+returns c =
+    all_from_yields_List (λ e. eqb e 0) _ _ c.all.result c.all.ensures.ran (YieldsList-from_slice c.args.row.now cc) (λ x b q k. search (rules, tests))
+    ∙ all_zero_all c.args.row.now

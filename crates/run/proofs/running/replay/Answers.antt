@@ -1,15 +1,12 @@
-use Rattle.std.proofs.Common.{refl, ap, ◌∙◌}
+use Rattle.std.proofs.Common.{ap, ◌∙◌}
 use Rattle.field.specs.Arithmetic.{Arithmetic}
 use Rattle.book.specs.Kept.{ledger}
 use Rattle.book.specs.Ledger.{new_ledger}
 use Rattle.run.specs.Runs.{run}
 use Rattle.run.specs.Lines.{steps_of, listed}
 use Rattle.run.proofs.Law.{run_law, run_tells}
-use Rattle.run.proofs.Replaying.{replaying_new, replaying_more, replaying_all}
+use Rattle.run.proofs.Replaying.{replaying_more, replaying_all}
 use Rattle.run.proofs.running.replay.Goals as goal
-
-pub loop-line-init : goal.loop-line-init
-loop-line-init g c = (refl, replaying_new (g.F.Field.meaning c.new-book.result.field) c.args.lines.now (ledger c.new-book.result.contents) c.new-book.ensures.contents)
 
 pub loop-line-preserved : goal.loop-line-preserved
 loop-line-preserved g c = (

@@ -1,19 +1,12 @@
-use Rattle.std.proofs.Common.{sym, ◌∙◌}
-use Rattle.sheet.specs.Numbers.{left}
-use Rattle.sheet_write.proofs.Sames.{same_more, same_not, same_none, same_over, same_end}
+use Rattle.std.proofs.Common.{◌≡◌, ap}
+use Rattle.std.proofs.lemmas.Iterator.{YieldsList-from_slice}
+use Rattle.std.proofs.lemmas.Iterator.Consumers.{YieldsList-from_first, YieldsList-from_copied}
+use Rattle.sheet.specs.Numbers.{left, numbers_of}
+use Rattle.sheet_write.proofs.Sames.{eq_from_yields_List}
 use Rattle.sheet_write.proofs.again.same_numbers.Goals as goal
 
-pub returns-then-x-numbers : goal.returns-then-x-numbers
-returns-then-x-numbers c = sym (same_not c.args.numbers.now c.loop-j.j (left c.loop-j.come) c.in-Some.x c.in-Some.ensures.value c.loop-j-test.true c.if-x-numbers.true) ∙ c.loop-j.invariant
-
-pub returns-in-None : goal.returns-in-None
-returns-in-None c = sym (same_none c.args.numbers.now c.loop-j.j (left c.loop-j.come) c.in-None.ensures.value c.loop-j-test.true) ∙ c.loop-j.invariant
-
-pub loop-j-preserved : goal.loop-j-preserved
-loop-j-preserved c = same_more c.args.numbers.now c.loop-j.j (left c.loop-j.come) (left c.number.new.self) c.in-Some.x c.in-Some.ensures.value c.number.ensures.after c.loop-j-test.true c.if-x-numbers.false ∙ c.loop-j.invariant
-
-pub returns-in-Some-number : goal.returns-in-Some-number
-returns-in-Some-number c = sym (same_over c.args.numbers.now c.loop-j.j (left c.loop-j.come) c.in-Some-number.field-0 c.in-Some-number.ensures.value c.loop-j-test.false) ∙ c.loop-j.invariant
-
-pub returns-in-None-number : goal.returns-in-None-number
-returns-in-None-number c = sym (same_end c.args.numbers.now c.loop-j.j (left c.loop-j.come) c.in-None-number.ensures.value c.loop-j-test.false) ∙ c.loop-j.invariant
+pub returns : goal.returns
+returns c =
+    eq_from_yields_List (λ x y. y ≡ x) c.copied.result c.eq.result c.eq.ensures.ran
+    (YieldsList-from_first (λ x. x) left (numbers_of c.args.body.now) (ap numbers_of c.of.ensures))
+    (λ it e. YieldsList-from_copied (YieldsList-from_slice c.args.numbers.now cc))

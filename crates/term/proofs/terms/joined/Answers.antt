@@ -1,9 +1,14 @@
-use Rattle.std.proofs.Common.{sym, arith}
-use Rattle.term.proofs.Exponents.{joined_one, joined_none}
+use Rattle.std.proofs.Common.{◌∙◌, rules}
+use Rattle.std.proofs.lemmas.Iterator.{YieldsList-from_slice}
+use Rattle.std.proofs.lemmas.Iterator.Search.{any_from_yields_List}
+use borrow.Author.Tests.{tests}
+use Rattle.algebra.specs.Term.{has}
+use Rattle.algebra.specs.Border.{multiples_from}
+use Rattle.term.proofs.Places.{joined_any}
 use Rattle.term.proofs.terms.joined.Goals as goal
 
-pub returns-then-joins : goal.returns-then-joins
-returns-then-joins c = joined_one c.args.t.now c.args.n c.args.terms.now c.loop-s.s-index (omega arith) (sym c.if-joins.ensures)
-
 pub returns : goal.returns
-returns c = joined_none c.args.t.now c.args.n c.args.terms.now (λ j l. c.loop-s.invariant j (omega arith))
+returns c =
+    any_from_yields_List (λ s. has c.args.t.now (multiples_from 0 c.args.n s)) _ _ c.any.result c.any.ensures.ran
+    (YieldsList-from_slice c.args.terms.now cc) (λ x b q k. search (rules, tests))
+    ∙ joined_any c.args.t.now c.args.n c.args.terms.now

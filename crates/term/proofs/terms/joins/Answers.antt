@@ -1,10 +1,13 @@
-use Rattle.std.proofs.Common.{sym, arith}
-use Rattle.term.proofs.Exponents.{joins_one, joins_none}
+use Rattle.std.proofs.Common.{◌∙◌, rules, arith}
+use Rattle.std.proofs.lemmas.Iterator.{YieldsList-from_range}
+use Rattle.std.proofs.lemmas.Iterator.Search.{any_from_yields_List}
+use borrow.Author.Tests.{tests}
+use Rattle.algebra.specs.Term.{same, times}
+use Rattle.term.proofs.Places.{joins_any}
 use Rattle.term.proofs.terms.joins.Goals as goal
 
-pub returns-then-is_product : goal.returns-then-is_product
-returns-then-is_product c =
-    joins_one c.args.t.now c.args.s.now 0 c.args.n c.loop-i.i (omega arith) (omega arith) (sym c.if-is_product.ensures)
-
 pub returns : goal.returns
-returns c = joins_none c.args.t.now c.args.s.now 0 c.args.n (λ j l u. c.loop-i.invariant j (omega arith))
+returns c =
+    any_from_yields_List (λ j. same c.args.t.now (times j c.args.s.now)) _ _ c.any.result c.any.ensures.ran
+    (YieldsList-from_range 0 c.args.n c.args.n (cc) (omega arith)) (λ x b q k. search (rules, tests))
+    ∙ joins_any c.args.t.now c.args.s.now 0 c.args.n

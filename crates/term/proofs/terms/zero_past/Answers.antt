@@ -1,15 +1,13 @@
-use Rattle.std.proofs.Common.{arith, below_more}
-use Rattle.term.proofs.Exponents.{zeros_past, nonzero_past}
+use Rattle.std.proofs.Common.{◌∙◌, rules, eqb}
+use Rattle.std.proofs.lemmas.Iterator.{YieldsList-from_slice}
+use Rattle.std.proofs.lemmas.Iterator.Adapters.{YieldsList-from_skip}
+use Rattle.std.proofs.lemmas.Iterator.Search.{all_from_yields_List}
+use borrow.Author.Tests.{tests}
+use Rattle.term.proofs.Places.{zero_past_all}
 use Rattle.term.proofs.terms.zero_past.Goals as goal
-use Rattle.term.proofs.terms.zero_past.Goals.{else-k-n-via-then-k-n+else-t-k-ne0, else-k-n-via-else-k-n}
-
-pub returns-then-t-k-ne0 : goal.returns-then-t-k-ne0
-returns-then-t-k-ne0 c = nonzero_past c.args.n c.args.t.now c.loop-k.k (omega arith) (omega arith) c.if-t-k-ne0.true
-
-pub loop-k-preserved : goal.loop-k-preserved
-loop-k-preserved c =
-    below_more _ _ c.loop-k.invariant
-    (λ h. elim c.else-k-n.branch [ else-k-n-via-then-k-n+else-t-k-ne0 w ↦ w.if-t-k-ne0.false | else-k-n-via-else-k-n w ↦ absurd (omega arith) ])
 
 pub returns : goal.returns
-returns c = zeros_past c.args.n c.args.t.now (λ j l u. c.loop-k.invariant j (omega arith) u)
+returns c =
+    all_from_yields_List (λ e. eqb e 0) _ _ c.all.result c.all.ensures.ran
+    (YieldsList-from_skip c.args.n (YieldsList-from_slice c.args.t.now cc) cc) (λ x b q k. search (rules, tests))
+    ∙ zero_past_all c.args.n c.args.t.now

@@ -1,9 +1,7 @@
-use Rattle.std.proofs.Common.{List, length, Ok, Err, Option, sym, refl, ap, ◌∙◌}
+use Rattle.std.proofs.Common.{Err, Option, sym, refl, ap, ◌∙◌, arith}
 use Rattle.std.proofs.lemmas.Result.{err_from_is_err_and}
-use Rattle.algebra.specs.Term.{Term}
 use Rattle.book.specs.declared.refusal.Refusal.{Refusal}
-use Rattle.book.specs.Judge.{granted, on_grant}
-use Rattle.book.specs.Ledger.{edge}
+use Rattle.book.specs.Judge.{on_grant}
 use Rattle.book.specs.Effects.{closed}
 use Rattle.book.specs.Kept.{ledger}
 use Rattle.book.proofs.Granting.{refused_answer, refused_stays}
@@ -11,34 +9,23 @@ use Rattle.book.proofs.Keeping.{facts}
 use Rattle.book.proofs.Closing.{close_judged, close_connected, shut_kept}
 use Rattle.book.proofs.book.Book.close.Goals as goal
 
-pub lay-requires : goal.lay-requires
-lay-requires g c =
+pub invariant_of-set : goal.invariant_of-set
+invariant_of-set g c =
     let k = c.args.self.now.contents in
-    let f = facts k c.args.self.now.kept in
-    (f.few_variables, (f.few_terms, close_connected k c.args.self.now.kept (close_judged k _ c.in_ok-judge_close.ensures)))
+    record { few = (facts k c.args.self.now.kept).few_variables; linked = close_connected k c.args.self.now.kept (close_judged k _ c.in_ok-judge_close.ensures) }
 
 pub invariant_of-self : goal.invariant_of-self
 invariant_of-self g c =
     let k = c.args.self.now.contents in
     let e = close_judged k _ c.in_ok-judge_close.ensures in
-    let b = c.lay.ensures in
-    let r = c.clear.ensures in
-    let size = sym c.count-count.ensures.size ∙ c.count-count.ensures.terms ∙ ap (λ (es : List Term). length es) b.terms in
-    record { kept = (shut_kept k c.lay.new.self c.clear.new.self c.args.self.now.kept e b.small b.terms size b.leads r.given r.rows r.places).still_kept }
+    record { kept = (shut_kept k c.lay.new.self c.clear.new.self c.args.self.now.kept e c.lay.ensures.terms (omega (arith, c.len-count.ensures)) c.lay.ensures.leads c.clear.ensures).still_kept }
 
-pub returns : goal.returns
-returns g c =
+pub returns-clause-after : goal.returns-clause-after
+returns-clause-after g c =
     let k = c.args.self.now.contents in
     let e = close_judged k _ c.in_ok-judge_close.ensures in
-    let b = c.lay.ensures in
-    let r = c.clear.ensures in
-    let count = c.count-count.ensures.terms ∙ ap (λ (es : List Term). length es) b.terms in
-    let s = shut_kept k c.lay.new.self c.clear.new.self c.args.self.now.kept e b.small b.terms (sym c.count-count.ensures.size ∙ count) b.leads r.given r.rows r.places in
-    record {
-      answer = ap Ok count ∙ ap (λ (o : Option Refusal). granted o (length (edge (ledger k)))) (sym e);
-      after = s.is_ledger ∙ ap (λ (o : Option Refusal). on_grant o (closed (ledger k)) (ledger k)) (sym e);
-      field = refl;
-    }
+    (shut_kept k c.lay.new.self c.clear.new.self c.args.self.now.kept e c.lay.ensures.terms (omega (arith, c.len-count.ensures)) c.lay.ensures.leads c.clear.ensures).is_ledger
+    ∙ ap (λ (o : Option Refusal). on_grant o (closed (ledger k)) (ledger k)) (sym e)
 
 pub returns-in_err-judge_close : goal.returns-in_err-judge_close
 returns-in_err-judge_close g c =

@@ -14,10 +14,13 @@ use Rattle.book.proofs.Meaning.{form_means}
 use Rattle.book.proofs.Answering.{form_call}
 use Rattle.book.proofs.book.Book.form.Goals as goal
 
+pub complete-requires : goal.complete-requires
+complete-requires g c = (form_call c.args.self.now.contents c.args.self.now.kept _ c.args.p.now c.args.row.now (none_from _ _ _ (sym c.judge_form.ensures ∙ c.in_ok-judge_form.was))).is_ready
+
 pub write_form-requires : goal.write_form-requires
 write_form-requires g c =
     let a = form_call c.args.self.now.contents c.args.self.now.kept _ c.args.p.now c.args.row.now (none_from _ _ _ (sym c.judge_form.ensures ∙ c.in_ok-judge_form.was)) in
-    (a.is_ready, (a.over, a.long))
+    rw c.complete.ensures.contents (a.over, a.long)
 
 pub returns : goal.returns
 returns g c =
@@ -27,7 +30,7 @@ returns g c =
     let p = c.args.p.now in
     let o = none_from _ _ _ (sym c.judge_form.ensures ∙ c.in_ok-judge_form.was) in
     let a = form_call k c.args.self.now.kept _ p c.args.row.now o in
-    let row = c.write_form.ensures.row in
+    let row = rw (c.complete.ensures.field, c.complete.ensures.contents) at c.write_form.ensures.row in
     let said = c.is_zero.ensures ∙ ap all_zero row in
     record {
       answer = ap Ok said ∙ ap (λ (x : Option Refusal). granted x (all_zero (normal_form (ring A) B p))) (sym o);

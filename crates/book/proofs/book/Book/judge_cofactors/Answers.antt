@@ -22,6 +22,6 @@ overflow_mul-len g c =
     let k = c.args.self.now.contents in
     let few = (facts k c.args.self.now.kept).few_terms in
     let low = few_degrees _ (ledger k) c.args.p.now (length c.args.row.now) _ c.in_ok-judge_polynomial.ensures in
-    let size : c.len.result ≤ 32 = omega (arith, few, c.len.ensures.size) in
+    let size : c.len.result ≤ 32 = omega (arith, few, c.len.ensures.value) in
     let sum : c.degrees.result ≤ 1536 = omega (arith, low, c.degrees.ensures) in
     omega (arith, few_slots c.len.result c.degrees.result size sum)

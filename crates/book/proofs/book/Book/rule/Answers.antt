@@ -1,5 +1,6 @@
-use Rattle.std.proofs.Common.{◌≡◌, ℕ, ◌-◌, ◌≤◌, true, map, length, take, set, Some, None, Ok, Err, Option, unwrap_or, sym, refl, ap, ◌∙◌, arith}
+use Rattle.std.proofs.Common.{◌≡◌, ℕ, ◌-◌, ◌≤◌, true, map, length, take, Some, None, Ok, Err, Option, unwrap_or, sym, refl, ap, ◌∙◌, arith}
 use Rattle.std.proofs.lemmas.Result.{err_from_is_err_and}
+use Rattle.std.proofs.lemmas.Bool.{eq-eqb}
 use Rattle.book.specs.declared.refusal.Refusal.{Refusal}
 use Rattle.field.specs.Arithmetic.{Arithmetic}
 use Rattle.algebra.specs.Term.{Term, place}
@@ -8,12 +9,11 @@ use Rattle.book.specs.declared.contents.Contents.{Contents}
 use Rattle.book.specs.Ledger.{edge}
 use Rattle.book.specs.Judge.{judge_rule, granted, on_grant}
 use Rattle.book.specs.Effects.{with_row, kept_row}
-use Rattle.book.specs.Kept.{kept, ledger}
+use Rattle.book.specs.Kept.{border_of, kept, ledger}
 use Rattle.book.proofs.Keeping.{facts}
-use Rattle.book.proofs.Ready.{terms_size}
 use Rattle.book.proofs.Granting.{none_from, value_from, refused_other, refused_stays}
 use Rattle.book.proofs.Admitting.{rule_admitted}
-use Rattle.book.proofs.Ruling.{Rewritten, rule_kept}
+use Rattle.book.proofs.Ruling.{Rewritten, rewritten_kept}
 use Rattle.book.proofs.book.Book.rule.Goals as goal
 
 pub kept_row-codes-requires : goal.kept_row-codes-requires
@@ -21,19 +21,18 @@ kept_row-codes-requires g c =
     let k = c.args.self.now.contents in
     let f = facts k c.args.self.now.kept in
     let a = rule_admitted (ledger k) _ c.args.e c.args.k c.args.row.now (none_from _ _ _ (sym c.in_ok-place.ensures.value)) in
-    omega (arith, a.long, terms_size k f, f.few_terms)
+    omega (arith, a.long, f.few_terms)
 
 -- the kept codes are those of the row times the inverse of the leading code
-module _ (A : Arithmetic) (k : Contents) (e : Term) (lead : ℕ) (row : Row) (h : kept k ≡ true) (at : ℕ) (was : Ok at ≡ granted (judge_rule A.order (ledger k) e lead row) (place e (edge (ledger k)))) (low : 1 ≤ at) (high : at ≤ k.border.size) (codes : Row) (inverse : ℕ) (found : inverse ≡ unwrap_or (A.inverse lead) 0) (kept-codes : take (length row) codes ≡ map (λ (c : ℕ). A.product c inverse) row) (long : length codes ≡ 32) where
+module _ (A : Arithmetic) (k : Contents) (e : Term) (lead : ℕ) (row : Row) (h : kept k ≡ true) (at : ℕ) (was : Ok at ≡ granted (judge_rule A.order (ledger k) e lead row) (place e (edge (ledger k)))) (low : 1 ≤ at) (high : at ≤ length (border_of k)) (codes : Row) (inverse : ℕ) (found : inverse ≡ unwrap_or (A.inverse lead) 0) (kept-codes : take (length row) codes ≡ map (λ (c : ℕ). A.product c inverse) row) (long : length codes ≡ 32) where
   accepted : judge_rule A.order (ledger k) e lead row ≡ None
   accepted = none_from _ _ _ (sym was)
 
-  given : Rewritten k (at - 1) true (set k.rules.rows (at - 1) codes) (Some (kept_row A lead row)) e
+  given : Rewritten k (at - 1) (Some codes) (Some (kept_row A lead row)) e
   given =
       let a = rule_admitted (ledger k) A.order e lead row accepted in
-      let size = terms_size k (facts k h) in
-      rule_kept k e (at - 1) h a.closed (ap (λ (x : ℕ). x - 1) (value_from _ _ _ (sym was))) (omega arith) codes (kept_row A lead row) long
-      (ap (λ (n : ℕ). take n codes) (sym (a.long ∙ size)) ∙ kept-codes ∙ ap (λ (b : ℕ). map (λ (c : ℕ). A.product c b) row) found)
+      rewritten_kept k e (at - 1) h a.closed (ap (λ (x : ℕ). x - 1) (value_from _ _ _ (sym was))) (omega arith) (Some codes) (Some (kept_row A lead row)) (eq-eqb _ 32 long)
+      (ap Some (ap (λ (n : ℕ). take n codes) (sym a.long) ∙ kept-codes ∙ ap (λ (b : ℕ). map (λ (c : ℕ). A.product c b) row) found))
 
 pub invariant_of-self : goal.invariant_of-self
 invariant_of-self g c =

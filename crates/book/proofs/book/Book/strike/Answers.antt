@@ -6,7 +6,7 @@ use Rattle.book.specs.Effects.{with_row}
 use Rattle.book.specs.Kept.{ledger}
 use Rattle.book.proofs.Granting.{none_from, value_from, refused_other, refused_stays}
 use Rattle.book.proofs.Admitting.{strike_admitted}
-use Rattle.book.proofs.Ruling.{strike_kept}
+use Rattle.book.proofs.Ruling.{rewritten_kept}
 use Rattle.book.proofs.book.Book.strike.Goals as goal
 
 pub invariant_of-self : goal.invariant_of-self
@@ -14,8 +14,8 @@ invariant_of-self g c =
     let k = c.args.self.now.contents in
     let e = sym c.in_ok-place.ensures.value in
     record {
-      kept = (strike_kept k c.args.e (c.in_ok-place.place - 1) c.args.self.now.kept (strike_admitted (ledger k) c.args.e (none_from _ _ _ e))
-          (ap (λ (x : ℕ). x - 1) (value_from _ _ _ e)) (omega (arith, c.in_ok-place.ensures.bound))).still_kept;
+      kept = (rewritten_kept k c.args.e (c.in_ok-place.place - 1) c.args.self.now.kept (strike_admitted (ledger k) c.args.e (none_from _ _ _ e))
+          (ap (λ (x : ℕ). x - 1) (value_from _ _ _ e)) (omega (arith, c.in_ok-place.ensures.bound)) None None refl refl).still_kept;
     }
 
 pub returns : goal.returns
@@ -23,8 +23,8 @@ returns g c =
     let k = c.args.self.now.contents in
     let e = sym c.in_ok-place.ensures.value in
     let o = none_from _ _ _ e in
-    let a = strike_kept k c.args.e (c.in_ok-place.place - 1) c.args.self.now.kept (strike_admitted (ledger k) c.args.e o)
-    (ap (λ (x : ℕ). x - 1) (value_from _ _ _ e)) (omega (arith, c.in_ok-place.ensures.bound)) in
+    let a = rewritten_kept k c.args.e (c.in_ok-place.place - 1) c.args.self.now.kept (strike_admitted (ledger k) c.args.e o)
+    (ap (λ (x : ℕ). x - 1) (value_from _ _ _ e)) (omega (arith, c.in_ok-place.ensures.bound)) None None refl refl in
     record {
       answer = ap (λ (x : Option Refusal). granted x tt) (sym o);
       after = a.is_ledger ∙ ap (λ (x : Option Refusal). on_grant x (with_row (ledger k) c.args.e None) (ledger k)) (sym o);

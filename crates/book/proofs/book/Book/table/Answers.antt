@@ -6,17 +6,20 @@ use Rattle.book.proofs.Granting.{none_from, granted_now, refused_stays}
 use Rattle.book.proofs.Answering.{table_call}
 use Rattle.book.proofs.book.Book.table.Goals as goal
 
+pub complete-requires : goal.complete-requires
+complete-requires g c = (table_call c.args.self.now.contents c.args.self.now.kept c.args.i c.args.table.now (none_from _ _ _ (sym c.judge_table.ensures ∙ c.in_ok-judge_table.was))).is_ready
+
 pub write_table-requires : goal.write_table-requires
 write_table-requires g c =
     let a = table_call c.args.self.now.contents c.args.self.now.kept c.args.i c.args.table.now (none_from _ _ _ (sym c.judge_table.ensures ∙ c.in_ok-judge_table.was)) in
-    (a.is_ready, (a.variable, a.long))
+    rw c.complete.ensures.contents (a.variable, a.long)
 
 pub returns : goal.returns
 returns g c =
     let o = none_from _ _ _ (sym c.judge_table.ensures ∙ c.in_ok-judge_table.was) in
     record {
       answer = ap (λ (x : Option Refusal). granted x tt) (sym o);
-      table = c.write_table.ensures ∙ granted_now _ o _ c.args.table.now;
+      table = (rw (c.complete.ensures.field, c.complete.ensures.contents) at c.write_table.ensures) ∙ granted_now _ o _ c.args.table.now;
     }
 
 pub returns-in_err-judge_table : goal.returns-in_err-judge_table

@@ -20,7 +20,7 @@ module _ {V : Type 0} (k : Contents) (t : Term) (h : kept k ≡ true) (r : Resul
 
 pub invariant_of-self : goal.invariant_of-self
 invariant_of-self g c =
-    record { kept = (added c.args.self.now.contents c.args.t c.args.self.now.kept c.judge_term.result _ _ c.judge_term.ensures c.in_ok-judge_term.was).still_kept }
+    record { kept = rw c.push.ensures (added c.args.self.now.contents c.args.t c.args.self.now.kept c.judge_term.result _ _ c.judge_term.ensures c.in_ok-judge_term.was).still_kept }
 
 pub returns : goal.returns
 returns g c =
@@ -30,7 +30,7 @@ returns g c =
     let a = pushed_kept k t c.args.self.now.kept e in
     record {
       answer = ap (λ (o : Option Refusal). granted o tt) (sym e);
-      after = a.is_ledger ∙ ap (λ (o : Option Refusal). on_grant o (with_term (ledger k) t) (ledger k)) (sym e);
+      after = (λ i. ledger (record { phase = k.phase; basis = record { variables = k.basis.variables; terms = c.push.ensures i }; border = k.border; rules = k.rules })) ∙ a.is_ledger ∙ ap (λ (o : Option Refusal). on_grant o (with_term (ledger k) t) (ledger k)) (sym e);
       field = refl;
     }
 

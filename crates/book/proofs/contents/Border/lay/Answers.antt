@@ -1,38 +1,26 @@
-use Rattle.std.proofs.Common.{◌≡◌, length, arith, rules}
-use Rattle.std.proofs.lemmas.List.{length-take-le}
-use Rattle.book.specs.Laying.{counted, laid_terms}
-use Rattle.book.proofs.Laying.{border_none, border_more, border_all, columns_more, led_all}
+use Rattle.std.proofs.Common.{List, [], length, get_or, sym, ap, ◌∙◌, arith}
+use Rattle.algebra.specs.Term.{Term, has}
+use Rattle.algebra.specs.Border.{multiples_from}
+use Rattle.algebra.proofs.Borders.{get_or_has}
+use Rattle.book.specs.Laying.{extended}
+use Rattle.book.proofs.Laying.{border_more, led_all}
 use Rattle.book.proofs.contents.Border.lay.Goals as goal
 
-pub loop-j-init : goal.loop-j-init
-loop-j-init c = (border_none c.args.basis.now.variables (counted c.args.basis.now), omega arith)
+pub lay_products-requires-clause-within : goal.lay_products-requires-clause-within
+lay_products-requires-clause-within c =
+    let S = c.as_slice-t-items.result.now in
+    ap (has (get_or S c.loop-t.t-index [])) (sym c.as_slice-t-items.ensures.value) ∙ get_or_has S c.loop-t.t-index c.loop-t-test.true
 
-pub loop-j-preserved : goal.loop-j-preserved
-loop-j-preserved c =
-    let b = c.args.basis.now in
-    let long : length b.terms ≡ 32 = search rules in
-    let size : length (counted b) ≡ b.size = length-take-le b.size b.terms (omega (arith, long, c.requires)) in
-    (border_more b.variables c.loop-j.j (counted b) (laid_terms c.loop-j.self) (laid_terms c.lay_products.new.self) (omega arith) c.loop-j.invariant.0 c.lay_products.ensures.terms, omega arith)
-
-pub loop-i-init : goal.loop-i-init
-loop-i-init c =
-    let b = c.args.basis.now in
-    let long : length b.terms ≡ 32 = search rules in
-    let size : length (counted b) ≡ b.size = length-take-le b.size b.terms (omega (arith, long, c.requires)) in
-    (omega arith, border_all b.variables c.loop-j.j (counted b) (laid_terms c.loop-j.self) (omega arith) c.loop-j.invariant.0, λ k l. absurd (omega arith))
-
-pub loop-i-preserved : goal.loop-i-preserved
-loop-i-preserved c =
-    let wide : length c.loop-i.self.leads ≡ 8 = search rules in (
-      c.loop-i.invariant.0,
-      c.loop-i.invariant.1,
-      columns_more (counted c.args.basis.now) (laid_terms c.loop-i.self) c.loop-i.i c.loop-i.self.leads c.column.result (omega (arith, c.requires)) c.loop-i.invariant.2 c.column.ensures,
-    )
-
-pub returns : goal.returns
-returns c =
+pub loop-t-preserved : goal.loop-t-preserved
+loop-t-preserved c =
+    let b = c.args.set.now.basis.now in
+    let same = c.as_slice-t-items.ensures.value in
     record {
-      small = c.loop-i.invariant.0;
-      terms = c.loop-i.invariant.1;
-      leads = led_all (counted c.args.basis.now) (laid_terms c.loop-i.self) c.args.basis.now.variables c.loop-i.self.leads (λ k l. c.loop-i.invariant.2 k (omega arith));
+      terms = border_more b.variables c.loop-t.t-index b.terms c.loop-t.self.terms c.lay_products.new.self.terms (omega (arith, c.loop-t-test.true, ap (λ (ts : List Term). length ts) same)) c.loop-t.invariant.terms
+          (c.lay_products.ensures.terms ∙ (λ k. extended b.terms c.loop-t.self.terms (multiples_from 0 b.variables (get_or (same k) c.loop-t.t-index []))));
+      bound = omega arith;
     }
+
+pub returns-clause-leads : goal.returns-clause-leads
+returns-clause-leads c =
+    led_all c.args.set.now.basis.now.terms c.loop-i.self.terms c.args.set.now.basis.now.variables c.loop-i.self.leads.columns (λ k l. c.loop-i.invariant.columns k (omega (arith, c.loop-i-test.false)))

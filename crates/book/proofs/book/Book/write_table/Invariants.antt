@@ -1,6 +1,0 @@
-use Rattle.field.specs.Arithmetic.{ring}
-use Rattle.book.proofs.Forming.{Tabled}
-use Rattle.book.proofs.book.Book.write_table.Given as goal
-
-abbrev pub invariant-loop-j : goal.invariant-loop-j
-invariant-loop-j g l = Tabled (ring (g.F.Field.meaning l.self.field)) l.self.contents l.i l.j l.table
