@@ -24,12 +24,14 @@ pub enum Line<'a> {
     Fault(Fault),
 }
 
+// Bytes, as a sink takes them.
 fn member_word(member: bool) -> &'static [u8]
     ensures { result.now ≡ member_word member }
 {
     if member { b" member" } else { b" other" }
 }
 
+// By hand, as all that says a part of a line: `Sink` has the reason.
 fn say_fault<S: Sink>(sink: &mut S, fault: Fault)
     requires { S.fits sink.old (length (text (fault_line fault))) }
     ensures bytes { S.took sink.old (text (fault_line fault)) sink.new }

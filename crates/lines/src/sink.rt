@@ -33,7 +33,7 @@ impl Sink for Count {
     }
 }
 
-// An output that is filled from its front. The writer of `sheet_write` does the same, but is private there: its methods ask for room, and no public function asks for anything.
+// An output of a caller that is filled from its front, since the library has no heap. The writer of `sheet_write` does the same, but is private there: its methods ask for room, and no public function asks for anything.
 #[derive(Drop)]
 pub(crate) struct Front<'a> {
     pub(crate) out: &'a mut [u8],

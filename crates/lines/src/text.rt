@@ -1,4 +1,4 @@
-// Words and numbers put into a sink one after another.
+// Words and numbers put into a sink one after another, by hand: `Sink` has the reason.
 ghost use Rattle.std.specs.Prelude.{◌*◌, ◌≤◌, length, decimal};
 ghost use Rattle.lines.specs.Line.{spaced, all_spaced, three};
 

@@ -97,6 +97,7 @@ impl fmt::Display for RecordLine<'_> {
                 let count = Spaced(pairs);
                 let plural = if pairs == 1 { "" } else { "s" };
                 write!(f, "question of{count} pair{plural}:")?;
+                // By their count: the numbers are taken as they are printed.
                 for k in 0..pairs {
                     let comma = if k > 0 { "," } else { "" };
                     let code = Spaced(numbers.next().unwrap_or(0));

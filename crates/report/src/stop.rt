@@ -45,7 +45,7 @@ pub(crate) fn by_field<T>(made: Result<T, field::Refusal>, byte: usize) -> Resul
     made.map_err(|refusal| Fault::Field { refusal, byte })
 }
 
-// A refusal by the book stands at the first byte of its record, from 1, or in no record at a number of the heading.
+// A refusal by the book stands at the first byte of its record, from 1, or at a number of the heading, in record 0, which is what is printed.
 pub(crate) fn by_book<T>(
     granted: Result<T, book::Refusal>,
     byte: usize,

@@ -61,7 +61,7 @@ impl<F: Field> Maps<'_, F> {
     {
         let size = row.len();
         if size <= 32 {
-            let mut next = [0u16; 32];
+            let mut next = [0u16; 32]; // on the stack: the library has no heap
             self.map_onto(leads, row, &mut next[0..size]);
             row.copy_from_slice(&next[0..size]);
         }

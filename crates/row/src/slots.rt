@@ -5,7 +5,7 @@ use crate::lead::Lead;
 use algebra::{Entry, Term};
 
 // Slots that a caller lends for entries, of which the first `count` are taken. No Vec: the library has no heap.
-// That the slots stay those of the caller (`same_reference`) each method has to say: the kit has no other place for it.
+// That the slots stay those of the caller (`same_reference`) each function that is lent them has to say, `Maps::walk` too: Rattle has no other place for it.
 #[derive(Drop)]
 pub struct Slots<'a> {
     pub slots: &'a mut [Entry],

@@ -1,6 +1,6 @@
 ghost use Rattle.std.specs.Prelude.{◌≤◌, length};
 
-// A record with the bytes of its body, which are those of the sheet.
+// A record with the bytes of its body, which are those of the sheet. `Kind` is its name without a body, as a writer has it.
 #[derive(Clone, Copy)]
 pub enum Record<'a> {
     Term(&'a [u8]),

@@ -29,6 +29,7 @@ impl Body<'_> {
     fn size(self) -> Option<usize>
         ensures { result ≡ body_size self.entry.kind self.entry.n self.entry.numbers.now }
     {
+        // A loop: the sum stops past its limit, and each number has a limit by its place.
         let mut size = 0;
         for (j, &number) in self.numbers.iter().enumerate() {
             if number > self.kind.limit(self.n, j) {

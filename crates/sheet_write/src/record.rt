@@ -8,7 +8,7 @@ use crate::number::number_size;
 use crate::writer::Writer;
 use sheet::{Kind, RecordFault, SheetFault};
 
-// The length of the body of a record that can be written. It takes what no one has judged yet: only a known kind makes a Body.
+// The length of the body of a record that can be written. It takes what no one has judged yet: only a known kind makes a Body. It stands nowhere yet, so byte and record of its faults are 0.
 fn accepted_size(n: u16, kind: u16, numbers: &[u16]) -> Result<usize, RecordFault>
     ensures value { result ≡ accepted n kind numbers.now }
     ensures size { IfOk result (λ size. BodySize size numbers.now) }

@@ -3,8 +3,9 @@ ghost use Rattle.sheet.specs.Number.{number_bytes};
 ghost use Rattle.sheet_write.specs.Puts.{Puts};
 ghost use Rattle.sheet_write.specs.Writing.{flat};
 
-// The output of a caller, and where the next byte goes in it. Each public writer asks first whether there is room, since the methods here ask for it.
-// That the output stays the caller's (`same`) each method has to say: the kit has no other place for it.
+// The output of a caller, since the library has no heap, and where the next byte goes in it.
+// Each of the three public writers asks first whether there is room, since the methods here ask for it; what they measure and put has nothing else in common.
+// That the output stays the caller's (`same`) each method has to say: Rattle has no other place for it.
 #[derive(Drop)]
 pub(crate) struct Writer<'a> {
     pub(crate) out: &'a mut [u8],

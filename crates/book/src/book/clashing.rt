@@ -31,7 +31,7 @@ impl<F: Field> Complete<'_, F> {
         requires { (j < length (terms_of self.now.contents.now)) × (a < self.now.contents.now.basis.variables) }
         ensures { result ≡ clash_of (ring (F.Field.meaning self.now.field.now)) (system (ledger self.now.contents.now)) (slice_index_or (terms_of self.now.contents.now) j []) (pairs_with a (a + 1) (self.now.contents.now.basis.variables - (a + 1))) }
     {
-        let mut row = [0u16; 32];
+        let mut row = [0u16; 32]; // on the stack: the library has no heap
         let row = &mut row[0..self.contents.basis.terms.len()];
         for b in a + 1..self.contents.basis.variables {
             self.commutator(a, b, j, row);
@@ -72,7 +72,7 @@ impl<F: Field> Complete<'_, F> {
         ensures same_reference { slots.new.slots.ghost_name ≡ slots.old.slots.ghost_name }
         ensures listed { listing slots.new.slots.now slots.new.count ≡ listed_all (listing slots.old.slots.now slots.old.count) (entries (ring (F.Field.meaning self.now.field.now)) (system (ledger self.now.contents.now)) (unit_row (terms_of self.now.contents.now) (slice_index_or (terms_of self.now.contents.now) j [])) (first ∷ second ∷ [])) }
     {
-        let mut row = [0u16; 32];
+        let mut row = [0u16; 32]; // on the stack: the library has no heap
         let row = &mut row[0..self.contents.basis.terms.len()];
         self.unit(j, row);
         let leads = &self.contents.border.leads.columns;

@@ -30,7 +30,7 @@ impl<F: Field> Complete<'_, F> {
         let maps = self.maps();
         let mut slots = Slots { slots, count: 0 };
         for (code, t) in p {
-            let mut start = [0u16; 32];
+            let mut start = [0u16; 32]; // on the stack: the library has no heap
             start[0] = *code;
             let last = &mut start[0..size];
             maps.walk(&self.contents.border.leads.columns, last, *t, &mut slots);

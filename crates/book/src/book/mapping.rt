@@ -1,4 +1,4 @@
-// The maps of the variables on rows of a closed book that lacks no rule. A row for one call is an array on the stack, cut to the size of S.
+// The maps of the variables on rows of a closed book that lacks no rule. A row for one call is an array on the stack, cut to the size of S: the library has no heap.
 ghost use Rattle.std.specs.Prelude.{◌≡◌, ◌<◌, [], length, slice_index_or};
 ghost use Rattle.field.specs.Arithmetic.{ring};
 ghost use Rattle.algebra.specs.Walk.{unit as unit_row, mapped};

@@ -16,7 +16,7 @@ fn kept_row<F: Field>(f: &F, row: &[u16], inverse: u16) -> [u16; 32]
     ensures codes { take (length row.now) result ≡ map (λ (c : ℕ). (F.Field.meaning f.now).product c inverse) row.now }
     ensures long { length result ≡ 32 }
 {
-    let mut codes = [0u16; 32];
+    let mut codes = [0u16; 32]; // on the stack: the library has no heap
     let kept = &mut codes[..row.len()];
     kept.copy_from_slice(row);
     for code in kept.iter_mut() {
@@ -26,7 +26,7 @@ fn kept_row<F: Field>(f: &F, row: &[u16], inverse: u16) -> [u16; 32]
 }
 
 impl<F: Field> Book<F> {
-    // Gives the border term `e` the rule whose leading code is `k`: the book keeps each code of the row times the inverse of `k`.
+    // Gives the border term `e` the rule whose leading code is `k`: the book keeps each code of the row times the inverse of `k`. The three come apart, as a solver writes them.
     pub fn rule(&mut self, e: Term, k: u16, row: &[u16]) -> Result<(), Refusal>
         ensures answer { result ≡ granted (judge_rule (F.Field.meaning self.old.field).order (ledger self.old.contents) e k row.now) tt }
         ensures after { ledger self.new.contents ≡ on_grant (judge_rule (F.Field.meaning self.old.field).order (ledger self.old.contents) e k row.now) (with_row (ledger self.old.contents) e (Some (row_kept (F.Field.meaning self.old.field) k row.now))) (ledger self.old.contents) }
