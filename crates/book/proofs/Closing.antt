@@ -1,7 +1,6 @@
 -- Closing kept contents. Assumes nothing.
-use Rattle.std.proofs.Common.{◌≡◌, ℕ, zero, suc, ◌≤◌, Bool, true, false, not, eqb, List, [], ◌∷◌, map, length, take, replicate, None, Ok, Option, Result, sym, refl, ap, ◌∙◌, arith}
-use Rattle.std.proofs.lemmas.List.{take-replicate}
-use Rattle.std.proofs.lemmas.Bool.{eqb-false, le-leb}
+use Rattle.std.proofs.Common.{◌≡◌, ℕ, zero, suc, ◌≤◌, Bool, true, false, not, eqb, List, [], ◌∷◌, ◌++◌, map, length, take, drop, replicate, Some, None, Ok, Option, Result, sym, refl, ap, ◌∙◌, arith}
+use Rattle.std.proofs.lemmas.Bool.{eqb-false, le-leb, and_parts}
 use Rattle.algebra.specs.Term.{Term}
 use Rattle.algebra.specs.Border.{Row, connected, border}
 use Rattle.book.specs.declared.contents.Border.{Border}
@@ -58,9 +57,25 @@ no_rows : (D : ℕ) (es : List Term) → kept_rows D (replicate (length es) None
 no_rows D [] = refl
 no_rows D (e ∷ es) = ap (λ (os : List (Option Row)). None ∷ os) (no_rows D es)
 
-all_long_none : (m : ℕ) → all_long (replicate m None) ≡ true
-all_long_none zero = refl
-all_long_none (suc m) = all_long_none m
+-- rows of which the first m are struck
+first_struck : (m : ℕ) (os : List (Option Row)) → take m (replicate m None ++ os) ≡ replicate m None
+first_struck zero os = refl
+first_struck (suc m) os = ap (λ (xs : List (Option Row)). None ∷ xs) (first_struck m os)
+
+all_long_past : (m : ℕ) (os : List (Option Row)) → all_long os ≡ true → all_long (drop m os) ≡ true
+all_long_past zero os h = h
+all_long_past (suc m) [] h = refl
+all_long_past (suc m) (None ∷ os) h = all_long_past m os h
+all_long_past (suc m) (Some r ∷ os) h = all_long_past m os (and_parts (eqb (length r) 32) (all_long os) h).1
+
+all_long_struck : (m : ℕ) (os : List (Option Row)) → all_long os ≡ true → all_long (replicate m None ++ os) ≡ true
+all_long_struck zero os h = h
+all_long_struck (suc m) os h = all_long_struck m os h
+
+length_struck : (m : ℕ) (os : List (Option Row)) → m ≤ length os → length (replicate m None ++ drop m os) ≡ length os
+length_struck zero os l = refl
+length_struck (suc m) [] l = absurd (omega arith)
+length_struck (suc m) (o ∷ os) l = ap suc (length_struck m os (omega arith))
 
 pub record Shut (k : Contents) (b : Border) (r : Rules) : Type 0 where
   pub still_kept : kept (shut k b r) ≡ true
@@ -68,14 +83,14 @@ pub record Shut (k : Contents) (b : Border) (r : Rules) : Type 0 where
 
 module _ (k : Contents) (b : Border) (r : Rules) (h : kept k ≡ true) (e : judge_close (ledger k) ≡ None) where
   -- with the border that was laid, its leads, and no rule
-  pub shut_kept : b.terms ≡ border k.basis.variables (terms_of k) → length b.terms ≤ 256 → led (terms_of k) b.terms 0 k.basis.variables b.leads.columns ≡ true → r.rows ≡ replicate 256 None → Shut k b r
+  pub shut_kept : b.terms ≡ border k.basis.variables (terms_of k) → length b.terms ≤ 256 → led (terms_of k) b.terms 0 k.basis.variables b.leads.columns ≡ true → r.rows ≡ replicate (length b.terms) None ++ drop (length b.terms) k.rules.rows → Shut k b r
   shut_kept is small leads none =
       let f = facts k h in
       let n = k.basis.variables in
       let S = terms_of k in
       let m = length b.terms in
       let rows : rows_of (shut k b r) ≡ map (λ (_ : Term). None) (border n S) =
-      ap (λ (os : List (Option Row)). kept_rows (length S) (take m os)) none ∙ ap (kept_rows (length S)) (take-replicate m 256 None small)
+      ap (λ (os : List (Option Row)). kept_rows (length S) (take m os)) none ∙ ap (kept_rows (length S)) (first_struck m (drop m k.rules.rows))
       ∙ no_rows (length S) b.terms ∙ ap (map (λ (_ : Term). None)) is in
       record {
         still_kept =
@@ -88,8 +103,8 @@ module _ (k : Contents) (b : Border) (r : Rules) (h : kept k ≡ true) (e : judg
               is_border = is;
               is_led = leads;
               is_complete = le-leb 1 (length S) (at_least_one (length S) (some_terms k e));
-              long_rows = ap all_long none ∙ all_long_none 256;
-              rows_long = ap (λ (os : List (Option Row)). length os) none;
+              long_rows = ap all_long none ∙ all_long_struck m (drop m k.rules.rows) (all_long_past m k.rules.rows f.long_rows);
+              rows_long = ap (λ (os : List (Option Row)). length os) none ∙ length_struck m k.rules.rows (omega (arith, f.rows_long)) ∙ f.rows_long;
             });
         is_ledger = λ i. record { variables = n; terms = S; phase = Closed; rows = rows i };
       }

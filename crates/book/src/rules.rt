@@ -1,5 +1,5 @@
 // Which border places have a rule.
-ghost use Rattle.std.specs.Prelude.{◌≡◌, ℕ, ◌≤◌, length, take, replicate, is_some, None};
+ghost use Rattle.std.specs.Prelude.{◌≡◌, ℕ, ◌≤◌, ◌++◌, length, take, drop, replicate, is_some, None};
 ghost use Rattle.algebra.specs.Border.{at_place};
 ghost use Rattle.term.specs.Search.{first_place, found};
 ghost use Rattle.book.specs.Judge.{missing};
@@ -9,11 +9,12 @@ use crate::contents::Rules;
 use crate::search::first_place;
 
 impl Rules {
-    // Strikes every rule.
-    pub(crate) fn clear(&mut self)
-        ensures { self.new.rows ≡ replicate 256 None }
+    // Strikes the rules of the first `size` places; the others have no border term, and cost a small book nothing.
+    pub(crate) fn clear(&mut self, size: usize)
+        requires { size ≤ 256 }
+        ensures { self.new.rows ≡ replicate size None ++ drop size self.old.rows }
     {
-        self.rows = [None; 256];
+        self.rows[..size].fill(None);
     }
 
     // The first of `size` places without a rule, counted from 1.

@@ -63,6 +63,20 @@ fn say_clash<S: Sink>(sink: &mut S, term: usize, a: usize, b: usize)
     say_three(sink, term, a, b)
 }
 
+// Three numbers of 64 bits are short enough.
+fn clash_fits(term: usize, a: usize, b: usize, room: usize) -> bool
+    ensures { result ≡ true → length (text (clash_line term a b)) ≤ room }
+{
+    80 <= room
+}
+
+// So are a space and a code, in 21 bytes.
+fn form_fits(codes: &[u16], member: bool, count: usize, room: usize) -> bool
+    ensures { result ≡ true → length (text (form_line codes.now member count)) ≤ room }
+{
+    80 + 21 * codes.len() as u128 <= room as u128
+}
+
 impl Line<'_> {
     // Puts the bytes of the line into a sink that has room for them.
     fn say<S: Sink>(self, sink: &mut S)
@@ -92,13 +106,29 @@ impl Line<'_> {
         count.0
     }
 
+    // Whether there is room for the longest line of its kind: its bytes need no count then. A fault comes once in a report, and is always counted.
+    fn surely_fits(self, room: usize) -> bool
+        ensures { result ≡ true → length (text (said self.entry)) ≤ room }
+    {
+        match self {
+            Line::Sound => 80 <= room,
+            Line::Clash { term, a, b } => clash_fits(term, a, b, room),
+            Line::Form {
+                codes,
+                member,
+                count,
+            } => form_fits(codes, member, count, room),
+            Line::Fault(_) => false,
+        }
+    }
+
     // Writes the line at the front of the output, and answers how many bytes it takes; where it has no room, it is refused with 24 and nothing is written.
     pub fn write(self, out: &mut [u8]) -> Result<usize, SheetFault>
         ensures value { result ≡ answer (with_room out.old (text (said self.entry))) }
         ensures after { out.new ≡ held (with_room out.old (text (said self.entry))) out.old }
         ensures room { width (said self.entry) ≤ length out.old → is_ok result ≡ true }
     {
-        if self.size() > out.len() as u128 {
+        if !self.surely_fits(out.len()) && self.size() > out.len() as u128 {
             return Err(RecordFault::ShortOutput.into());
         }
         let mut front = Front { out, at: 0 };

@@ -1,5 +1,5 @@
 -- A row beside the leads of its terms, at their end and copied back. Assumes nothing.
-use Rattle.std.proofs.Common.{◌≡◌, ℕ, zero, suc, ◌-◌, ◌≤◌, leb, ◌⊎◌, List, [], ◌∷◌, ◌++◌, length, get_or, take, replicate, None, Option, unwrap_or, sym, refl, ap, ◌∙◌, inl, inr, arith, length-append, length-take}
+use Rattle.std.proofs.Common.{◌≡◌, ℕ, zero, suc, ◌-◌, ◌<◌, ◌≤◌, leb, ◌⊎◌, List, [], ◌∷◌, ◌++◌, length, get_or, map, take, replicate, sym, refl, ap, ◌∙◌, inl, inr, arith, length-append, length-take}
 use lib.ListN.{length-replicate}
 use Rattle.std.proofs.lemmas.List.{take_at}
 use Rattle.std.proofs.lemmas.Bool.{cond-true, le-leb}
@@ -8,7 +8,7 @@ use Rattle.algebra.specs.Term.{Term}
 use Rattle.algebra.specs.Border.{Row, at_place}
 use Rattle.row.specs.declared.lead.Lead.{Lead}
 use Rattle.row.specs.Sums.{zeros_like}
-use Rattle.row.specs.Leads.{given_rows, map_led, advanced}
+use Rattle.row.specs.Leads.{map_led, advanced}
 use Rattle.row.specs.Listing.{Listed, listed_all, step_led}
 
 -- where the codes or the leads are at their end, nothing is added
@@ -25,17 +25,17 @@ step_led_end s m (c ∷ v) [] h = refl
 step_led_end s m (c ∷ v) (l ∷ ls) (inl h) = absurd (omega arith)
 step_led_end s m (c ∷ v) (l ∷ ls) (inr h) = absurd (omega arith)
 
--- the row that stands at a place, empty where there is none
-given_at : (os : List (Option Row)) (k : ℕ) → get_or (given_rows os) k [] ≡ unwrap_or (get_or os k None) []
-given_at [] k = refl
-given_at (o ∷ os) zero = refl
-given_at (o ∷ os) (suc k) = given_at os k
+-- the row that stands at a place, as it is stored
+stored_at : {X : Type 0} (f : X → Row) (xs : List X) (k : ℕ) (x : X) → k < length xs → f (get_or xs k x) ≡ get_or (map f xs) k []
+stored_at f [] k x l = absurd (omega arith)
+stored_at f (y ∷ xs) zero x l = refl
+stored_at f (y ∷ xs) (suc k) x l = stored_at f xs k x (omega arith)
 
-pub row_at : (os : List (Option Row)) (place : ℕ) (o : Option Row) → 1 ≤ place → get_or os (place - 1) None ≡ o → unwrap_or o [] ≡ at_place place (given_rows os) []
-row_at os zero o l e = absurd (omega arith)
-row_at os (suc k) o l e =
+pub row_at : {X : Type 0} (f : X → Row) (xs : List X) (place : ℕ) (x : X) → 1 ≤ place → place ≤ length xs → f (get_or xs (place - 1) x) ≡ at_place place (map f xs) []
+row_at f xs zero x l u = absurd (omega arith)
+row_at f xs (suc k) x l u =
     let before : suc k - 1 ≡ k = omega arith in
-    ap (λ (x : Option Row). unwrap_or x []) (sym e ∙ ap (λ (j : ℕ). get_or os j None) before) ∙ sym (given_at os k)
+    ap (λ (j : ℕ). f (get_or xs j x)) before ∙ stored_at f xs k x (omega arith)
 
 blank_part : (v : Row) (n : ℕ) → length v ≤ n → take (length v) (replicate n 0) ≡ zeros_like v
 blank_part [] n l = refl

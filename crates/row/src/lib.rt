@@ -4,9 +4,11 @@
 mod lead;
 mod maps;
 mod slots;
+mod stored;
 mod sums;
 
 pub use lead::Lead;
 pub use maps::Maps;
 pub use slots::Slots;
+pub use stored::StoredRow;
 pub use sums::{add_multiple, clear, is_zero, subtract};

@@ -1,2 +1,4 @@
+pub mod Pushes
+pub mod Cells
 pub mod Cuts
 pub mod Readings

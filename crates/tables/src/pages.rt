@@ -4,6 +4,7 @@ ghost use Rattle.tables.specs.Page.{digit as digit_of, cell, apply as applied, e
 use field::Field;
 use std::alloc::{AllocError, Global};
 use std::fmt;
+use std::fmt::Display;
 
 #[derive(Clone, Copy)]
 pub enum Operation {
@@ -46,15 +47,24 @@ impl Line {
 }
 
 // The digit of `n` in the place of `unit`, or a blank before its first digit. Every code has a text of four columns; `{n:>4}` is that text only below 1,000.
-fn digit(n: u16, unit: u16) -> char
+fn digit(n: u16, unit: u16) -> u8
     requires { 0 < unit }
     ensures { result ≡ digit_of n unit }
 {
     if n < unit {
-        ' '
+        b' '
     } else {
-        char::from(b'0' + (n / unit % 10) as u8)
+        b'0' + (n / unit % 10) as u8
     }
+}
+
+// A code in its column.
+fn column(n: u16) -> [u8; 4]
+    ensures { result ≡ cell (Some n) }
+{
+    let text = [b' ', digit(n, 100), digit(n, 10), b'0' + (n % 10) as u8];
+    // As one number: four bytes that are stored one by one and loaded at once hold a processor up.
+    u32::from_le_bytes(text).to_le_bytes()
 }
 
 // A code in its column, or a dash where there is none.
@@ -64,13 +74,14 @@ struct Cell(Option<u16>);
 impl fmt::Display for Cell {
     ghost output = { λ c. Some (cell c.0) };
 
+    #[inline(always)]
     fn fmt<W: fmt::Write>(&self, f: &mut fmt::Formatter<W>) -> fmt::Result {
         match self.0 {
             Some(n) => {
-                let last = char::from(b'0' + (n % 10) as u8);
-                write!(f, " {}{}{last}", digit(n, 100), digit(n, 10))
+                let text = column(n);
+                f.write_str(unsafe { str::from_utf8_unchecked(&text) })
             }
-            None => write!(f, "   -"),
+            None => f.write_str("   -"),
         }
     }
 }
@@ -80,11 +91,11 @@ impl fmt::Display for Line {
 
     fn fmt<W: fmt::Write>(&self, f: &mut fmt::Formatter<W>) -> fmt::Result {
         match *self {
-            Line::Heads(Operation::Sum) => write!(f, "   +"),
-            Line::Heads(Operation::Product) => write!(f, "   *"),
-            Line::Row(_, a) => write!(f, "{}", Cell(Some(a))),
-            Line::Negatives => write!(f, " neg"),
-            Line::Inverses => write!(f, " inv"),
+            Line::Heads(Operation::Sum) => f.write_str("   +"),
+            Line::Heads(Operation::Product) => f.write_str("   *"),
+            Line::Row(_, a) => Cell(Some(a)).fmt(f),
+            Line::Negatives => f.write_str(" neg"),
+            Line::Inverses => f.write_str(" inv"),
         }
     }
 }
@@ -99,11 +110,11 @@ impl<F: Field> fmt::Display for Filled<'_, F> {
     fn fmt<W: fmt::Write>(&self, f: &mut fmt::Formatter<W>) -> fmt::Result {
         let line = self.0;
         let field = self.1;
-        write!(f, "{line}")?;
+        line.fmt(f)?;
         for b in 0..field.order() {
-            write!(f, "{}", Cell(line.entry(field, b)))?;
+            Cell(line.entry(field, b)).fmt(f)?;
         }
-        writeln!(f)
+        f.write_str("\n")
     }
 }
 
@@ -116,9 +127,9 @@ impl<F: Field> fmt::Display for Table<'_, F> {
     fn fmt<W: fmt::Write>(&self, f: &mut fmt::Formatter<W>) -> fmt::Result {
         let operation = self.0;
         let field = self.1;
-        write!(f, "{}", Filled(Line::Heads(operation), field))?;
+        Filled(Line::Heads(operation), field).fmt(f)?;
         for a in 0..field.order() {
-            write!(f, "{}", Filled(Line::Row(operation, a), field))?;
+            Filled(Line::Row(operation, a), field).fmt(f)?;
         }
         Ok(())
     }

@@ -9,17 +9,34 @@ use crate::request::{Request, RequestError};
 use field::{Binary, Field, Prime, Refusal};
 use std::alloc::{AllocError, Global};
 use std::fmt;
+use std::fmt::Write;
 
-// `out` is an argument here and below, as an output is anywhere: it belongs to no line.
-fn push_text<D: fmt::Display + Drop>(out: &mut Vec<u8>, value: D) -> Result<(), AllocError>
-    ensures { OnOk result (IfSome (D.output value) (λ bs. out.new.items ≡ out.old.items ++ bs)) }
-{
-    let text = format!(in *out.allocator(); "{value}")?;
-    out.extend_from_slice(text.as_bytes())
+// The answers so far. Bytes and no String: a line is answered after its own bytes, whatever they are. What is displayed is written to their end as it comes, with no String between.
+#[derive(Drop)]
+struct Output(Vec<u8>);
+
+impl fmt::Write for Output {
+    ghost write_str_gives = { λ s bs t. t.0.items ≡ s.0.items ++ bs };
+
+    fn write_str(&mut self, text: &str) -> fmt::Result {
+        self.0
+            .extend_from_slice(text.as_bytes())
+            .map_err(|_| fmt::Error)
+    }
 }
 
-fn push_refused(out: &mut Vec<u8>, refusal: Refusal) -> Result<(), AllocError>
-    ensures { OnOk result (out.new.items ≡ out.old.items ++ refused_text) }
+// `out` is an argument here and below, as an output is anywhere: it belongs to no line.
+fn push_text<D: fmt::Display + Drop>(out: &mut Output, value: D) -> Result<(), AllocError>
+    ensures { OnOk result (IfSome (D.output value) (λ bs. out.new.0.items ≡ out.old.0.items ++ bs)) }
+{
+    match out.write(value) {
+        Ok(()) => Ok(()),
+        Err(_) => Err(AllocError),
+    }
+}
+
+fn push_refused(out: &mut Output, refusal: Refusal) -> Result<(), AllocError>
+    ensures { OnOk result (out.new.0.items ≡ out.old.0.items ++ refused_text) }
 {
     push_text(
         out,
@@ -27,8 +44,8 @@ fn push_refused(out: &mut Vec<u8>, refusal: Refusal) -> Result<(), AllocError>
     )
 }
 
-fn push_no_pair(out: &mut Vec<u8>, number: usize) -> Result<(), AllocError>
-    ensures { OnOk result (out.new.items ≡ out.old.items ++ no_pair number) }
+fn push_no_pair(out: &mut Output, number: usize) -> Result<(), AllocError>
+    ensures { OnOk result (out.new.0.items ≡ out.old.0.items ++ no_pair number) }
 {
     push_text(
         out,
@@ -37,8 +54,8 @@ fn push_no_pair(out: &mut Vec<u8>, number: usize) -> Result<(), AllocError>
 }
 
 // The page of a field, where it was made.
-fn push_made<F: Field + Drop>(out: &mut Vec<u8>, made: Result<F, Refusal>) -> Result<(), AllocError>
-    ensures { OnOk result (MatchResult made (λ f. out.new.items ≡ out.old.items ++ page (F.Field.meaning f)) (λ _. out.new.items ≡ out.old.items ++ refused_text)) }
+fn push_made<F: Field + Drop>(out: &mut Output, made: Result<F, Refusal>) -> Result<(), AllocError>
+    ensures { OnOk result (MatchResult made (λ f. out.new.0.items ≡ out.old.0.items ++ page (F.Field.meaning f)) (λ _. out.new.0.items ≡ out.old.0.items ++ refused_text)) }
 {
     match made {
         Ok(f) => push_text(out, PageOf(&f)),
@@ -47,11 +64,11 @@ fn push_made<F: Field + Drop>(out: &mut Vec<u8>, made: Result<F, Refusal>) -> Re
 }
 
 fn push_answered(
-    out: &mut Vec<u8>,
+    out: &mut Output,
     number: usize,
     request: Result<Request, RequestError>,
 ) -> Result<(), AllocError>
-    ensures { OnOk result (out.new.items ≡ out.old.items ++ answered_text number request) }
+    ensures { OnOk result (out.new.0.items ≡ out.old.0.items ++ answered_text number request) }
 {
     match request {
         Ok(Request::PrimeField(p)) => push_made(out, Prime::new(p)),
@@ -61,13 +78,13 @@ fn push_answered(
     }
 }
 
-fn push_answer(out: &mut Vec<u8>, number: usize, line: &[u8]) -> Result<(), AllocError>
-    ensures { OnOk result (out.new.items ≡ out.old.items ++ answer_text number line.now) }
+fn push_answer(out: &mut Output, number: usize, line: &[u8]) -> Result<(), AllocError>
+    ensures { OnOk result (out.new.0.items ≡ out.old.0.items ++ answer_text number line.now) }
 {
-    out.extend_from_slice(line)?;
-    out.push(b'\n')?;
+    out.0.extend_from_slice(line)?;
+    out.0.push(b'\n')?;
     push_answered(out, number, Request::try_from(line))?;
-    out.push(b'\n')?;
+    out.0.push(b'\n')?;
     Ok(())
 }
 
@@ -96,9 +113,9 @@ impl<'a> Iterator for Lines<'a> {
 pub fn answers(heap: Global, input: &[u8]) -> Result<Vec<u8>, AllocError>
     ensures { IfOk result (λ v. v.items ≡ answers_text 1 (lines input.now)) }
 {
-    let mut out = Vec::new(heap);
+    let mut out = Output(Vec::new(heap));
     for (before, line) in Lines(input).enumerate() {
         push_answer(&mut out, before + 1, line)?;
     }
-    Ok(out)
+    Ok(out.0)
 }

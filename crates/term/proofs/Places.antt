@@ -1,11 +1,11 @@
 -- The searches of this crate in the library's words. Assumes nothing.
-use Rattle.std.proofs.Common.{◌≡◌, ℕ, zero, suc, ◌+◌, ◌-◌, Bool, true, false, cond, not, ◌||◌, ◌&&◌, eqb, List, [], ◌∷◌, get_or, set, drop, Some, None, Option, sym, refl, ap, ◌∙◌, add-one, arith}
+use Rattle.std.proofs.Common.{◌≡◌, ℕ, zero, suc, ◌+◌, ◌-◌, Bool, true, false, cond, not, ◌||◌, ◌&&◌, eqb, ltb, ◌<◌, ◌≤◌, ⊎_elim, List, [], ◌∷◌, length, get_or, set, drop, Some, None, Option, sym, refl, ap, ◌∙◌, add-one, arith}
 use Rattle.std.specs.List.{list_any, list_all, position, position_from, range_with_len, sum_by}
 use Rattle.std.specs.Option.{option_map}
 use Rattle.std.proofs.lemmas.Iterator.Adapters.{position_from-zero}
 use Rattle.std.proofs.lemmas.List.Quantifiers.{position-Some}
 use Rattle.std.proofs.lemmas.List.Sums.{sum_by_from}
-use Rattle.std.proofs.lemmas.Bool.{both_ways, cond-true, eqb-true, ne_eqb, not-false, not_from_false}
+use Rattle.std.proofs.lemmas.Bool.{lt-ltb, le-ltb, cases_lt, both_ways, cond-true, eqb-true, ne_eqb, not-false, not_from_false}
 use Rattle.algebra.specs.Term.{Term, next_place, same, has, place, times, degree, zero_past}
 use Rattle.algebra.specs.Border.{multiples_from, multiples}
 use Rattle.term.specs.Search.{first_place, found}
@@ -33,6 +33,34 @@ zero_past_all zero [] = refl
 zero_past_all (suc n) [] = refl
 zero_past_all zero (e ∷ t) = ap (λ (b : Bool). eqb e 0 && b) (zero_past_all zero t)
 zero_past_all (suc n) (e ∷ t) = zero_past_all n t
+
+-- the exponents from place i on, asked one by one
+zero_past_range : (n i : ℕ) (t u : Term) → ((j : ℕ) → get_or t (i + j) 0 ≡ get_or u j 0) → list_all (λ (k : ℕ). ltb k n || eqb (get_or t k 0) 0) (range_with_len i (length u)) ≡ zero_past (n - i) u
+zero_past_range n i t [] h = refl
+zero_past_range n i t (e ∷ u) h =
+    let first : i ≡ i + 0 = omega arith in
+    let here : get_or t i 0 ≡ e = ap (λ (k : ℕ). get_or t k 0) first ∙ h 0 in
+    let rest = zero_past_range n (i + 1) t u (λ j. let z : i + 1 + j ≡ i + suc j = omega arith in ap (λ (k : ℕ). get_or t k 0) z ∙ h (suc j)) in
+    ⊎_elim (before rest) (from here rest) (cases_lt i n)
+  where
+    before : list_all (λ (k : ℕ). ltb k n || eqb (get_or t k 0) 0) (range_with_len (i + 1) (length u)) ≡ zero_past (n - (i + 1)) u → i < n → (ltb i n || eqb (get_or t i 0) 0) && list_all (λ (k : ℕ). ltb k n || eqb (get_or t k 0) 0) (range_with_len (i + 1) (length u)) ≡ zero_past (n - i) (e ∷ u)
+    before rest l =
+        let z : n - i ≡ suc (n - (i + 1)) = omega (arith, l) in
+        ap (λ (b : Bool). (b || eqb (get_or t i 0) 0) && list_all (λ (k : ℕ). ltb k n || eqb (get_or t k 0) 0) (range_with_len (i + 1) (length u))) (lt-ltb i n l)
+        ∙ rest ∙ sym (ap (λ (k : ℕ). zero_past k (e ∷ u)) z)
+
+    from : get_or t i 0 ≡ e → list_all (λ (k : ℕ). ltb k n || eqb (get_or t k 0) 0) (range_with_len (i + 1) (length u)) ≡ zero_past (n - (i + 1)) u → n ≤ i → (ltb i n || eqb (get_or t i 0) 0) && list_all (λ (k : ℕ). ltb k n || eqb (get_or t k 0) 0) (range_with_len (i + 1) (length u)) ≡ zero_past (n - i) (e ∷ u)
+    from here rest l =
+        let z : n - i ≡ 0 = omega (arith, l) in
+        let y : n - (i + 1) ≡ 0 = omega (arith, l) in
+        (λ p. (le-ltb i n l p || eqb (here p) 0) && (rest ∙ ap (λ (k : ℕ). zero_past k u) y) p) ∙ sym (ap (λ (k : ℕ). zero_past k (e ∷ u)) z)
+
+pub zero_past_asked : (n m : ℕ) (t : Term) → length t ≡ m → list_all (λ (k : ℕ). ltb k n || eqb (get_or t k 0) 0) (range_with_len 0 m) ≡ zero_past n t
+zero_past_asked n m t l =
+    let none : n - 0 ≡ n = omega arith in
+    ap (λ (k : ℕ). list_all (λ (k : ℕ). ltb k n || eqb (get_or t k 0) 0) (range_with_len 0 k)) (sym l)
+    ∙ zero_past_range n 0 t t (λ j. let z : 0 + j ≡ j = omega arith in ap (λ (k : ℕ). get_or t k 0) z)
+    ∙ ap (λ (k : ℕ). zero_past k t) none
 
 -- where a search with a first element at place i ends, from its place counted from 1
 abbrev placed : ℕ → ℕ → Option ℕ

@@ -4,13 +4,26 @@ ghost use Rattle.algebra.specs.Border.{multiples_from, multiples};
 ghost use Rattle.term.specs.Letters.{first_variable, raised as raised_term};
 ghost use Rattle.term.specs.Search.{found};
 
+use crate::search::Test;
 use algebra::Term;
 
-// `==` under a name: its equation speaks of `same`, as the definitions do.
+// As two numbers of eight bytes, since a search asks this of each term that it passes: `==` of two arrays goes byte by byte.
 pub fn same(a: &Term, b: &Term) -> bool
     ensures { result ≡ same_term a.now b.now }
 {
-    *a == *b
+    u64::from_le_bytes(*a) == u64::from_le_bytes(*b)
+}
+
+// The test whether a term is this one.
+#[derive(Clone, Copy)]
+pub struct Is(pub Term);
+
+impl Test<Term> for Is {
+    ghost meaning = { λ t u. same_term t.0 u };
+
+    fn passes(&self, x: &Term) -> bool {
+        same(&self.0, x)
+    }
 }
 
 // The place of a term in a list, counted from 1.
@@ -24,10 +37,8 @@ pub fn place(terms: &[Term], t: &Term) -> Option<usize>
 pub fn is_product(t: &Term, i: usize, s: &Term) -> bool
     ensures { result ≡ same_term t.now (times i s.now) }
 {
-    if i < 8 && s[i] == 255 {
-        return false; // no byte is one more
-    }
-    *t == raised(*s, i)
+    // Exponent by exponent, with no copy of `s`: nearly every term differs at the first or second.
+    (0..8).all(|k| t[k] as u16 == s[k] as u16 + (k == i) as u16)
 }
 
 // Whether `t` is one of the first `n` variables times `s`.
@@ -48,7 +59,7 @@ pub fn joined(terms: &[Term], n: usize, t: &Term) -> bool
 pub fn zero_past(t: &Term, n: usize) -> bool
     ensures { result ≡ zero_past n t.now }
 {
-    t.iter().skip(n).all(|e| *e == 0)
+    (0..8).all(|k| k < n || t[k] == 0)
 }
 
 // Whether the term is in the first `n` variables: the same question in the words of the ring, with a definition of its own.

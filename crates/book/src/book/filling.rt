@@ -102,8 +102,8 @@ impl<F: Field> Book<F> {
             basis: &self.contents.basis,
         };
         self.contents.border.lay(&set);
-        self.contents.rules.clear();
         let count = self.contents.border.terms.len();
+        self.contents.rules.clear(count);
         self.contents.phase = Phase::Closed;
         Ok(count)
     }

@@ -1,6 +1,7 @@
 use Rattle.std.proofs.Common.{true, false, refl, ap, ◌∙◌, arith}
 use Rattle.term.specs.Search.{found}
-use Rattle.book.proofs.Searching.{none_before, one_more, first_found, first_absent, found_next}
+use Rattle.term.proofs.Searching.{none_before, one_more, first_found, first_absent}
+use Rattle.book.proofs.Searching.{found_next}
 use Rattle.book.proofs.search.first_place.Goals as goal
 
 pub loop-k-init : goal.loop-k-init

@@ -1,6 +1,6 @@
 use Rattle.std.proofs.Common.{◌≡◌, Bool}
 use Rattle.std.specs.Fn.{FnReturnsAt}
-use Rattle.book.proofs.Searching.{PassedOver}
+use Rattle.term.proofs.Searching.{PassedOver}
 use Rattle.book.proofs.search.first_place.Given as goal
 
 abbrev pub invariant-loop-k : goal.invariant-loop-k

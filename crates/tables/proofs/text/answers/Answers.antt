@@ -11,5 +11,5 @@ loop-before-init c =
     record {
       can = (tt, tt, inl (omega (arith, few, count, ap (λ bs. length (lines bs)) rest)));
       finite = search rules;
-      answered = (λ i. c.new-out.ensures.items i ++ answers (count i + 1) (lines (rest i)));
+      answered = (λ i. c.new.ensures.items i ++ answers (count i + 1) (lines (rest i)));
     }

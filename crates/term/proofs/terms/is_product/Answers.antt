@@ -1,17 +1,12 @@
-use Rattle.std.proofs.Common.{◌<◌, ◌≤◌, ◌⊎◌, length, get_or, ap, ◌∙◌, inl, inr, arith}
-use Rattle.algebra.specs.Term.{same}
-use Rattle.term.proofs.Letters.{raised_product}
-use Rattle.term.proofs.Exponents.{no_product}
+use Rattle.std.proofs.Common.{◌+◌, ◌∙◌, cond, get_or, eqb, rules, arith}
+use Rattle.std.proofs.lemmas.Iterator.{YieldsList-from_range}
+use Rattle.std.proofs.lemmas.Iterator.Search.{all_from_yields_List}
+use borrow.Author.Tests.{tests}
+use Rattle.term.proofs.Exponents.{product_each}
 use Rattle.term.proofs.terms.is_product.Goals as goal
-use Rattle.term.proofs.terms.is_product.Goals.{else-i-lt8-via-then-i-lt8+else-s-i, else-i-lt8-via-else-i-lt8}
-
-pub returns-then-s-i : goal.returns-then-s-i
-returns-then-s-i c = no_product c.args.i c.args.t.now c.args.s.now (omega arith) c.if-s-i.true (c.fits-t c.args.i)
 
 pub returns : goal.returns
 returns c =
-    let room : (length c.args.s.now ≤ c.args.i) ⊎ (get_or c.args.s.now c.args.i 0 < 255) = elim c.else-i-lt8.branch [
-      | else-i-lt8-via-then-i-lt8+else-s-i w ↦ inr (omega (arith, c.fits-s c.args.i))
-      | else-i-lt8-via-else-i-lt8 w ↦ inl (omega arith)
-    ] in
-    c.eq.ensures ∙ ap (same c.args.t.now) (c.raised.ensures ∙ raised_product c.args.i c.args.s.now room)
+    all_from_yields_List (λ k. eqb (get_or c.args.t.now k 0) (get_or c.args.s.now k 0 + cond (eqb k c.args.i) 1 0)) _ _ c.all.result c.all.ensures.ran
+    (YieldsList-from_range 0 8 8 (cc) (omega arith)) (λ x b q k. search (rules, tests))
+    ∙ product_each c.args.i 8 c.args.t.now c.args.s.now c.told-t c.told-s

@@ -1,4 +1,4 @@
-use Rattle.std.proofs.Common.{Err, Option, sym, refl, ap, ◌∙◌, arith}
+use Rattle.std.proofs.Common.{ℕ, ◌++◌, drop, replicate, None, Err, Option, sym, refl, ap, ◌∙◌, arith}
 use Rattle.std.proofs.lemmas.Result.{err_from_is_err_and}
 use Rattle.book.specs.declared.refusal.Refusal.{Refusal}
 use Rattle.book.specs.Judge.{on_grant}
@@ -18,13 +18,15 @@ pub invariant_of-self : goal.invariant_of-self
 invariant_of-self g c =
     let k = c.args.self.now.contents in
     let e = close_judged k _ c.in_ok-judge_close.ensures in
-    record { kept = (shut_kept k c.lay.new.self c.clear.new.self c.args.self.now.kept e c.lay.ensures.terms (omega (arith, c.len-count.ensures)) c.lay.ensures.leads c.clear.ensures).still_kept }
+    let struck = c.clear.ensures ∙ ap (λ (m : ℕ). replicate m None ++ drop m k.rules.rows) c.len-count.ensures.value in
+    record { kept = (shut_kept k c.lay.new.self c.clear.new.self c.args.self.now.kept e c.lay.ensures.terms (omega (arith, c.len-count.ensures)) c.lay.ensures.leads struck).still_kept }
 
 pub returns-clause-after : goal.returns-clause-after
 returns-clause-after g c =
     let k = c.args.self.now.contents in
     let e = close_judged k _ c.in_ok-judge_close.ensures in
-    (shut_kept k c.lay.new.self c.clear.new.self c.args.self.now.kept e c.lay.ensures.terms (omega (arith, c.len-count.ensures)) c.lay.ensures.leads c.clear.ensures).is_ledger
+    let struck = c.clear.ensures ∙ ap (λ (m : ℕ). replicate m None ++ drop m k.rules.rows) c.len-count.ensures.value in
+    (shut_kept k c.lay.new.self c.clear.new.self c.args.self.now.kept e c.lay.ensures.terms (omega (arith, c.len-count.ensures)) c.lay.ensures.leads struck).is_ledger
     ∙ ap (λ (o : Option Refusal). on_grant o (closed (ledger k)) (ledger k)) (sym e)
 
 pub returns-in_err-judge_close : goal.returns-in_err-judge_close
